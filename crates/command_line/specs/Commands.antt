@@ -43,8 +43,8 @@ abbrev pub size_of : List ℕ → Option ℕ
 size_of word = bounded_number 5 1 10000 word
 
 -- the number of a guest, of 1 or 2 digits
-abbrev pub guest_of : List ℕ → Option ℕ
-guest_of word = bounded_number 2 0 99 word
+abbrev pub guest_number : List ℕ → Option ℕ
+guest_number word = bounded_number 2 0 99 word
 
 -- a run of generated guests, where these words are a seed and a size
 abbrev pub work_of : List ℕ → List ℕ → Option Command
@@ -52,7 +52,7 @@ work_of seed size = option_and_then (λ s. option_map (Work s) (size_of size)) (
 
 -- a run after which a guest is saved, where the second word is a guest's number
 abbrev pub save_of : List ℕ → List ℕ → Option Command
-save_of config guest = option_map (λ g. OnFiles (Save config g)) (guest_of guest)
+save_of config guest = option_map (λ g. OnFiles (Save config g)) (guest_number guest)
 
 -- the command of the words after the program's name
 abbrev pub asked_by : List (List ℕ) → Option Command

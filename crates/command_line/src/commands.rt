@@ -6,7 +6,7 @@ ghost use Rattle.std.specs.List.{list_all};
 ghost use Rattle.clap.specs.Words.{app_of, fault_of, first_of, found_of, rows_of, shape_of, subcommand_of, subcommand_rows_of, with_subcommand, new_app};
 ghost use Rattle.clap.specs.declared.builder.command.Command.TheViews.{out-Command};
 ghost use Rattle.command_line.specs.CommandLines.{bare_app, files_app, nesthv_app, one_word, reports_app, two_words};
-ghost use Rattle.command_line.specs.Commands.{OnFiles, command_of, asked_by, is_numeral, is_plain, bounded_number, guest_of, if_within, save_of, work_of};
+ghost use Rattle.command_line.specs.Commands.{OnFiles, command_of, asked_by, is_numeral, is_plain, bounded_number, guest_number, if_within, save_of, work_of};
 ghost use Rattle.command_line.specs.CommandLines.{command_by, file_command_by};
 ghost use Rattle.command_line.specs.Seen.{command_seen, file_command_seen, IsRequest};
 

@@ -56,8 +56,8 @@ pub record IsSplit (needs : List Need) (parts : List Layout) (frames : ℕ) : Ty
   pub roots_next : RootsComeNext parts
 
 -- the most tables beside the roots that a need has: one of the host table, and those of its spaces
-abbrev pub most_tables : ℕ
-most_tables = 1 + 8 * tables_for 256
+abbrev pub most_guest_tables : ℕ
+most_guest_tables = 1 + 8 * tables_for 256
 
 -- where to go on: the first free block, the first free frame for roots, and that for other tables
 abbrev pub after_need : Need → Free → Free

@@ -4,7 +4,7 @@ ghost use Rattle.std.specs.Prelude.{◌≡◌, ℕ, ◌+◌, ◌*◌, ◌%◌, �
 ghost use Rattle.arch_defs.specs.Frames.{most_frames};
 ghost use Rattle.arch_defs.specs.Layouts.{NamesEachOnce, Meets};
 ghost use Rattle.guest_specs.specs.Needs.{tables_for, IsNeed};
-ghost use Rattle.frame_split.specs.Shares.{AreNeeds, BlocksLieBelow, Causes, IsSplit, LeavesSpare, LiesBetween, after_need, blocks_of_all, frames_with, most_tables, RootsLieFrom, roots_of_all, tables_of_all};
+ghost use Rattle.frame_split.specs.Shares.{AreNeeds, BlocksLieBelow, Causes, IsSplit, LeavesSpare, LiesBetween, after_need, blocks_of_all, frames_with, most_guest_tables, RootsLieFrom, roots_of_all, tables_of_all};
 
 use crate::faults::PlanFault;
 use arch_defs::{BLOCK_FRAMES, MOST_BLOCKS, MOST_FRAMES, Need, Part, TABLES_PER_ENTRY};
@@ -78,7 +78,7 @@ fn all_needed(needs: &[Need]) -> Totals
     ensures blocks { result.blocks ≡ blocks_of_all needs.now }
     ensures roots { result.roots ≡ roots_of_all needs.now }
     ensures tables { result.tables ≡ tables_of_all needs.now }
-    ensures few { (result.blocks ≤ 512) × (result.roots ≤ 144) × (result.tables ≤ 16 * most_tables) }
+    ensures few { (result.blocks ≤ 512) × (result.roots ≤ 144) × (result.tables ≤ 16 * most_guest_tables) }
 {
     let mut totals = Totals {
         blocks: 0,
@@ -98,7 +98,7 @@ fn with_need(totals: Totals, need: &Need) -> Totals
     ensures roots { result.roots ≡ totals.roots + (1 + need.now.spaces) }
     ensures tables { result.tables ≡ totals.tables + (1 + need.now.spaces * tables_for need.now.entries) }
     ensures few { (result.blocks ≤ totals.blocks + 32) × (result.roots ≤ totals.roots + 9)
-        × (result.tables ≤ totals.tables + most_tables) }
+        × (result.tables ≤ totals.tables + most_guest_tables) }
 {
     Totals {
         blocks: totals.blocks + need.blocks,

@@ -15,13 +15,13 @@ use Rattle.outside.specs.declared.connections.Transfer.TheVariants.{Came, Sent}
 use Rattle.outside.proofs.Pieces.{appends_then}
 use Rattle.outside.proofs.Transfers.{came_append, sent_append}
 use Rattle.gdb_stub.specs.Sessions.{Recording}
-use Rattle.gdb_stub.specs.Talks.{after_message, all_said, is_end, is_whole, said_to, said_to_all, AreSent, HasGoneOn, HasCome, HasSaid, HasTalked, IsFront, IsPart, IsPrompt, TalkedTo, TalkState}
+use Rattle.gdb_stub.specs.Talks.{after_message, all_said, is_last_message, is_whole, said_to, said_to_all, AreSent, HasGoneOn, HasCome, HasSaid, HasTalked, IsFront, IsPart, IsPrompt, TalkedTo, TalkState}
 use Rattle.gdb_stub.specs.declared.talks.TalkEnd.{TalkEnd}
 use Rattle.gdb_stub.specs.declared.talks.TalkEnd.TheVariants.{ReadFault, WriteFault, NoMemory}
 
 -- what is said to a message and those behind it
 said_next : (r : Recording) (t : TalkState) (message : Message) (rest : List Message)
-    → said_to_all r t (message ∷ rest) ≡ said_to r t message ++ (if is_end message then [] else said_to_all r (after_message r t message) rest)
+    → said_to_all r t (message ∷ rest) ≡ said_to r t message ++ (if is_last_message message then [] else said_to_all r (after_message r t message) rest)
 unfolding said_to_all
 said_next r t message rest = refl
 
@@ -151,13 +151,13 @@ module _ {C : Type 0} (K : connections.Ghosts C) (r : Recording) (t : TalkState)
   -- a message that has come whole, and what comes later
   next_said : (come : List ℕ) (received : Received) (later : List ℕ) → message_in come ≡ Some received
       → all_said r t (come ++ later) ≡ said_to r t received.message
-      ++ (if is_end received.message then [] else all_said r (after_message r t received.message) (drop received.length come ++ later))
+      ++ (if is_last_message received.message then [] else all_said r (after_message r t received.message) (drop received.length come ++ later))
   next_said come received later is = ap (λ (all : List Message). said_to_all r t all) (messages_heard come later received is)
       ∙ said_next r t received.message (messages_in (drop received.length come ++ later))
 
   -- gdb stays after a message
   heard_stays : (old new : C) (come : List ℕ) (received : Received) (after : TalkState)
-      → message_in come ≡ Some received → is_end received.message ≡ false → after ≡ after_message r t received.message
+      → message_in come ≡ Some received → is_last_message received.message ≡ false → after ≡ after_message r t received.message
       → HasSaid K true (said_to r t received.message) old new
       → TalkedTo K r t after come (drop received.length come) old new
   heard_stays old new come received after is stays goes says =
@@ -173,7 +173,7 @@ module _ {C : Type 0} (K : connections.Ghosts C) (r : Recording) (t : TalkState)
       }
 
   -- or it has left
-  heard_last : (old new : C) (come : List ℕ) (received : Received) → message_in come ≡ Some received → is_end received.message ≡ true
+  heard_last : (old new : C) (come : List ℕ) (received : Received) → message_in come ≡ Some received → is_last_message received.message ≡ true
       → HasSaid K true (said_to r t received.message) old new → HasTalked K r t come None old new
   heard_last old new come received is ends says =
       let none = no_came says.transfers says.silent in
@@ -200,12 +200,12 @@ module _ {C : Type 0} (K : connections.Ghosts C) (r : Recording) (t : TalkState)
         prompt = prompt_sent r t come [] says.transfers says.silent;
         said = rw (cut, next_said come received (came_in says.transfers) is)
             (part_front false (sent_in says.transfers) (said_to r t received.message)
-            (if is_end received.message then [] else all_said r (after_message r t received.message) (drop received.length come ++ came_in says.transfers)) refl says.said);
+            (if is_last_message received.message then [] else all_said r (after_message r t received.message) (drop received.length come ++ came_in says.transfers)) refl says.said);
         done = λ none. absurd cc;
       }
 
   heard_by : (old new : C) (come : List ℕ) (received : Received) (after : TalkState) (result : Result Bool TalkEnd)
-      → message_in come ≡ Some received → IfOk result (λ stays. stays ≡ not (is_end received.message))
+      → message_in come ≡ Some received → IfOk result (λ stays. stays ≡ not (is_last_message received.message))
       → OnOk result (after ≡ after_message r t received.message) → ¬ IsErrOf result ReadFault
       → HasSaid K (is_ok result) (said_to r t received.message) old new
       → HasGoneOn K r t after come (drop received.length come) result old new
@@ -218,7 +218,7 @@ module _ {C : Type 0} (K : connections.Ghosts C) (r : Recording) (t : TalkState)
   -- so what answering the next message leaves of the talk
   pub heard : (old new : C) (come come' : List ℕ) (message : Message) (after : TalkState) (result : Result Bool TalkEnd)
       → Some message ≡ option_map (λ (received : Received). received.message) (message_in come) → come' ≡ behind (message_in come) come
-      → IfOk result (λ stays. stays ≡ not (is_end message)) → OnOk result (after ≡ after_message r t message) → ¬ IsErrOf result ReadFault
+      → IfOk result (λ stays. stays ≡ not (is_last_message message)) → OnOk result (after ≡ after_message r t message) → ¬ IsErrOf result ReadFault
       → HasSaid K (is_ok result) (said_to r t message) old new
       → HasGoneOn K r t after come come' result old new
   heard old new come come' message after result found rest last goes no_read says = by (message_in come) refl found rest
@@ -230,7 +230,7 @@ module _ {C : Type 0} (K : connections.Ghosts C) (r : Recording) (t : TalkState)
           let same : message ≡ received.message = cc in
           subst (λ (bytes : List ℕ). HasGoneOn K r t after come bytes result old new) (sym rest)
           (heard_by old new come received after result is
-          (subst (λ (m : Message). IfOk result (λ stays. stays ≡ not (is_end m))) same last)
+          (subst (λ (m : Message). IfOk result (λ stays. stays ≡ not (is_last_message m))) same last)
           (subst (λ (m : Message). OnOk result (after ≡ after_message r t m)) same goes) no_read
           (subst (λ (m : Message). HasSaid K (is_ok result) (said_to r t m) old new) same says))
 

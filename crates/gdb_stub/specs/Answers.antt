@@ -20,7 +20,7 @@ use Rattle.gdb_stub.specs.declared.sessions.Move.{Move}
 use Rattle.gdb_stub.specs.declared.sessions.Move.TheVariants as move
 use Rattle.gdb_stub.specs.Looking.{memory_text}
 use Rattle.gdb_stub.specs.Registers.{error_text, register_text, registers_text}
-use Rattle.gdb_stub.specs.Sessions.{changed_by, offsets_for, place_for, reached, shown, Recording, SessionState}
+use Rattle.gdb_stub.specs.Sessions.{changed_by_move, offsets_for, place_for, position_reached, machine_shown, Recording, SessionState}
 
 -- a number as 16 digits
 abbrev pub number_text : ℕ → List ℕ
@@ -54,8 +54,8 @@ abbrev pub actions_text : List ℕ
 actions_text = codes "vCont;c;C;s;S"
 
 -- a part of the description: `m` before one that is not the last, and `l` before one that is
-abbrev pub part_of : List ℕ → Place → List ℕ
-part_of description place = (if nat_lt (length (take place.length (drop place.address description)))
+abbrev pub description_part : List ℕ → Place → List ℕ
+description_part description place = (if nat_lt (length (take place.length (drop place.address description)))
     (length (drop place.address description)) then codes "m" else codes "l")
     ++ take place.length (drop place.address description)
 
@@ -76,19 +76,19 @@ is_at_begin r pcs n = if has_pc pcs (run r.begin n) then Bool.false else n == 0
 
 -- why it has stopped where a move from one position has come to another, if not by a write. A step that is not
 -- made is at the end
-abbrev pub end_by : Recording → List ℕ → ℕ → ℕ → Move → List ℕ
-end_by r pcs from n move.Step = stop_or_end (n == from) end_text
-end_by r pcs from n move.Continue = stop_or_end (is_over r pcs n) end_text
-end_by r pcs from n move.StepBack = stop_or_end (n == from) begin_text
-end_by r pcs from n move.ContinueBack = stop_or_end (is_at_begin r pcs n) begin_text
+abbrev pub move_end_text : Recording → List ℕ → ℕ → ℕ → Move → List ℕ
+move_end_text r pcs from n move.Step = stop_or_end (n == from) end_text
+move_end_text r pcs from n move.Continue = stop_or_end (is_over r pcs n) end_text
+move_end_text r pcs from n move.StepBack = stop_or_end (n == from) begin_text
+move_end_text r pcs from n move.ContinueBack = stop_or_end (is_at_begin r pcs n) begin_text
 
 -- or by a write to what is watched from an address on
-abbrev pub text_with : Option ℕ → List ℕ → List ℕ
-text_with (Some address) end = watch_text address
-text_with None end = end
+abbrev pub watch_or_end : Option ℕ → List ℕ → List ℕ
+watch_or_end (Some address) end = watch_text address
+watch_or_end None end = end
 
 abbrev pub move_text : Recording → SessionState → Move → List ℕ
-move_text r s way = text_with (changed_by r s way) (end_by r s.pcs s.place (reached r s way) way)
+move_text r s way = watch_or_end (changed_by_move r s way) (move_end_text r s.pcs s.place (position_reached r s way) way)
 
 -- what is set is acknowledged where some byte of it has a place
 abbrev pub set_text : StopKind → List ℕ → List ℕ
@@ -122,7 +122,7 @@ requests_line = codes "monitor: step N | goto N | walk 0xADDRESS | fences\n"
 abbrev pub line_at : Recording → SessionState → Request → List ℕ
 line_at r s (request.Step k) = position_line s.place
 line_at r s (request.GoTo k) = position_line s.place
-line_at r s (request.Walk address) = walk_line (offset_of (shown r s) address)
+line_at r s (request.Walk address) = walk_line (offset_of (machine_shown r s) address)
 line_at r s request.Fences = fences_line
 line_at r s request.Unknown = requests_line
 
@@ -140,19 +140,19 @@ fixed_text other = []
 
 -- and to one that looks at registers or at the description
 abbrev pub look_text : Recording → SessionState → Command → List ℕ
-look_text r s command.Registers = registers_text (shown r s).platform.virt
-look_text r s (command.Register n) = register_text (shown r s).platform.virt n
-look_text r s (command.Description place) = part_of r.description place
+look_text r s command.Registers = registers_text (machine_shown r s).platform.virt
+look_text r s (command.Register n) = register_text (machine_shown r s).platform.virt n
+look_text r s (command.Description place) = description_part r.description place
 look_text r s other = fixed_text other
 
 -- the answer to a command
 unfoldable pub answer_to : Recording → SessionState → Command → List ℕ
-answer_to r s (command.Memory place) = memory_text (shown r s) place.address place.length
+answer_to r s (command.Memory place) = memory_text (machine_shown r s) place.address place.length
 answer_to r s command.Step = move_text r s move.Step
 answer_to r s command.Continue = move_text r s move.Continue
 answer_to r s command.StepBack = move_text r s move.StepBack
 answer_to r s command.ContinueBack = move_text r s move.ContinueBack
-answer_to r s (command.Set kind place) = set_text kind (offsets_for (shown r s) place)
+answer_to r s (command.Set kind place) = set_text kind (offsets_for (machine_shown r s) place)
 answer_to r s (command.Clear kind place) = clear_text kind
 answer_to r s (command.Monitor asked) =
     hex (line_at r (record s { place = place_for asked r.last s.place }) asked)

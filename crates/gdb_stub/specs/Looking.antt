@@ -20,11 +20,11 @@ abbrev pub most_shown : ℕ → ℕ
 most_shown n = if nat_le n 1024 then n else 1024
 
 -- the bytes at offsets into RAM
-abbrev pub byte_at : Machine → ℕ → ℕ
-byte_at m offset = slice_index m.ram offset
+abbrev pub machine_byte : Machine → ℕ → ℕ
+machine_byte m offset = slice_index m.ram offset
 
 abbrev pub bytes_at : Machine → List ℕ → List ℕ
-bytes_at m offsets = map (byte_at m) offsets
+bytes_at m offsets = map (machine_byte m) offsets
 
 abbrev pub bytes_text : List ℕ → List ℕ
 bytes_text [] = error_text

@@ -17,7 +17,7 @@ use Rattle.gdb_stub.specs.declared.sessions.Move.{Move}
 use Rattle.gdb_stub.specs.declared.sessions.Move.TheVariants as move
 use Rattle.gdb_stub.specs.declared.sessions.Session.{Session}
 use Rattle.gdb_stub.specs.declared.sessions.Watched.{Watched}
-use Rattle.gdb_stub.specs.Looking.{byte_at, most_shown, offsets_in}
+use Rattle.gdb_stub.specs.Looking.{machine_byte, most_shown, offsets_in}
 
 -- a run as it is debugged: the machine that it begins with, its last position, and the description of its
 -- registers for gdb
@@ -34,19 +34,19 @@ pub record SessionState : Type 0 where
   pub watched : List Watched
 
 -- the machine that is shown: that of the run after as many steps as the position says
-abbrev pub shown : Recording → SessionState → Machine
-shown r s = run r.begin s.place
+abbrev pub machine_shown : Recording → SessionState → Machine
+machine_shown r s = run r.begin s.place
 
 -- watched bytes with what they are
 abbrev pub seen_in : Machine → List Watched → List (Watched × ℕ)
-seen_in m watched = map (λ w. (w, byte_at m w.offset)) watched
+seen_in m watched = map (λ w. (w, machine_byte m w.offset)) watched
 
 -- a stop is at one of the addresses, or where a watched byte is another than it was
 abbrev pub stops_by : List ℕ → List (Watched × ℕ) → StopSet
 stops_by pcs seen = record { pcs = pcs; bytes = map (λ was. (was.0.offset, was.1)) seen }
 
 abbrev pub stops_in : Recording → SessionState → StopSet
-stops_in r s = stops_by s.pcs (seen_in (shown r s) s.watched)
+stops_in r s = stops_by s.pcs (seen_in (machine_shown r s) s.watched)
 
 -- the latest position of any run
 abbrev pub latest : ℕ
@@ -57,37 +57,37 @@ abbrev pub clamped : ℕ → ℕ → ℕ
 clamped last n = if nat_le n last then n else last
 
 -- where a move comes to. A step and a run are made where the machine goes on
-abbrev pub reached : Recording → SessionState → Move → ℕ
-reached r s move.Step = if goes_on (shown r s).platform.status then clamped r.last (s.place + 1) else s.place
-reached r s move.Continue = if goes_on (shown r s).platform.status
+abbrev pub position_reached : Recording → SessionState → Move → ℕ
+position_reached r s move.Step = if goes_on (machine_shown r s).platform.status then clamped r.last (s.place + 1) else s.place
+position_reached r s move.Continue = if goes_on (machine_shown r s).platform.status
     then next_stop r.begin (stops_in r s) s.place (r.last - s.place) else s.place
-reached r s move.StepBack = s.place - 1
-reached r s move.ContinueBack = last_stop r.begin (stops_in r s) s.place
+position_reached r s move.StepBack = s.place - 1
+position_reached r s move.ContinueBack = last_stop r.begin (stops_in r s) s.place
 
 -- the first watched byte that is another than it was, by the address of its stop
 abbrev pub changed_in : Machine → List (Watched × ℕ) → Option ℕ
 changed_in m [] = None
 changed_in m (was ∷ seen) =
-    if byte_at m was.0.offset == was.1 then changed_in m seen else Some was.0.place.address
+    if machine_byte m was.0.offset == was.1 then changed_in m seen else Some was.0.place.address
 
-abbrev pub changed_by : Recording → SessionState → Move → Option ℕ
-changed_by r s way = changed_in (run r.begin (reached r s way)) (seen_in (shown r s) s.watched)
+abbrev pub changed_by_move : Recording → SessionState → Move → Option ℕ
+changed_by_move r s way = changed_in (run r.begin (position_reached r s way)) (seen_in (machine_shown r s) s.watched)
 
 -- a move that changes a watched byte ends before the step that does: gdb takes a watch to be told so, and
 -- makes that step itself
-abbrev pub before : Move → ℕ → ℕ
-before move.Step n = n - 1
-before move.Continue n = n - 1
-before move.StepBack n = clamped latest (n + 1)
-before move.ContinueBack n = clamped latest (n + 1)
+abbrev pub one_step_short : Move → ℕ → ℕ
+one_step_short move.Step n = n - 1
+one_step_short move.Continue n = n - 1
+one_step_short move.StepBack n = clamped latest (n + 1)
+one_step_short move.ContinueBack n = clamped latest (n + 1)
 
 abbrev pub place_with : Option ℕ → Move → ℕ → ℕ
-place_with (Some address) way n = before way n
+place_with (Some address) way n = one_step_short way n
 place_with None way n = n
 
 -- the position after a move: where it comes to, or of a watch one step short of that
-abbrev pub place_by : Recording → SessionState → Move → ℕ
-place_by r s way = place_with (changed_by r s way) way (reached r s way)
+abbrev pub position_after : Recording → SessionState → Move → ℕ
+position_after r s way = place_with (changed_by_move r s way) way (position_reached r s way)
 
 -- the position after what stands behind `monitor`
 abbrev pub place_for : Request → ℕ → ℕ → ℕ
@@ -121,7 +121,7 @@ with_stop r s kind.Instruction place =
     record s { pcs = pcs_without place.address s.pcs ++ place.address ∷ [] }
 with_stop r s kind.Written place = record s {
   watched =
-      watched_without place s.watched ++ watched_at place (offsets_for (shown r s) place);
+      watched_without place s.watched ++ watched_at place (offsets_for (machine_shown r s) place);
 }
 with_stop r s kind.Other place = s
 
@@ -132,17 +132,17 @@ without_stop s kind.Other place = s
 
 -- what a move leaves of a session, where no watched byte changes and anyhow
 abbrev pub come_to : Recording → SessionState → Move → SessionState
-come_to r s way = record s { place = reached r s way }
+come_to r s way = record s { place = position_reached r s way }
 
-abbrev pub moved : Recording → SessionState → Move → SessionState
-moved r s way = record s { place = place_by r s way }
+abbrev pub after_move : Recording → SessionState → Move → SessionState
+after_move r s way = record s { place = position_after r s way }
 
 -- what a command leaves
 unfoldable pub state_after : Recording → SessionState → Command → SessionState
-state_after r s command.Step = moved r s move.Step
-state_after r s command.Continue = moved r s move.Continue
-state_after r s command.StepBack = moved r s move.StepBack
-state_after r s command.ContinueBack = moved r s move.ContinueBack
+state_after r s command.Step = after_move r s move.Step
+state_after r s command.Continue = after_move r s move.Continue
+state_after r s command.StepBack = after_move r s move.StepBack
+state_after r s command.ContinueBack = after_move r s move.ContinueBack
 state_after r s (command.Monitor asked) = record s { place = place_for asked r.last s.place }
 state_after r s (command.Set kind place) = with_stop r s kind place
 state_after r s (command.Clear kind place) = without_stop s kind place
@@ -153,15 +153,15 @@ abbrev pub recording_of : {Y : Type 0} → runners.Ghosts Y → Session Y → Re
 recording_of R s =
     record { begin = begin_of R s.positions; last = s.last; description = s.description.items }
 
-abbrev pub state_of : {Y : Type 0} → Session Y → SessionState
-state_of s = record { place = s.positions.place; pcs = s.pcs.items; watched = s.watched.items }
+abbrev pub session_state : {Y : Type 0} → Session Y → SessionState
+session_state s = record { place = s.positions.place; pcs = s.pcs.items; watched = s.watched.items }
 
 -- the machine that is shown is that of the run at its position
-pub record IsHeld {Y : Type 0} (R : runners.Ghosts Y) (s : Session Y) : Type 0 where
+pub record ShowsPosition {Y : Type 0} (R : runners.Ghosts Y) (s : Session Y) : Type 0 where
   pub shown : IsShown R s.positions
   pub few : s.last ≤ 2 ^ 52
 
 -- and the recording stays the same, whatever the position is
 pub record KeepsSession {Y : Type 0} (R : runners.Ghosts Y) (old new : Session Y) : Type 0 where
-  pub held : IsHeld R new
+  pub held : ShowsPosition R new
   pub recording : recording_of R new ≡ recording_of R old

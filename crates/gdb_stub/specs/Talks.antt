@@ -14,7 +14,7 @@ use Rattle.outside.specs.declared.connections.Connection as connections
 use Rattle.outside.specs.declared.connections.Transfer.{Transfer}
 use Rattle.outside.specs.declared.connections.Transfer.TheVariants.{Came, Sent}
 use Rattle.gdb_stub.specs.Answers.{answer_to}
-use Rattle.gdb_stub.specs.Sessions.{state_after, state_of, Recording, SessionState}
+use Rattle.gdb_stub.specs.Sessions.{state_after, session_state, Recording, SessionState}
 use Rattle.gdb_stub.specs.declared.talks.Talk.{Talk}
 use Rattle.gdb_stub.specs.declared.talks.TalkEnd.{TalkEnd}
 use Rattle.gdb_stub.specs.declared.talks.TalkEnd.TheVariants.{ReadFault, WriteFault, NoMemory}
@@ -60,15 +60,15 @@ abbrev pub after_message : Recording → TalkState → Message → TalkState
 after_message r t (Packet payload) = after_command r t (command_in payload)
 after_message r t other = t
 
-abbrev pub is_end : Message → Bool
-is_end (Packet payload) = is_last (command_in payload)
-is_end other = false
+abbrev pub is_last_message : Message → Bool
+is_last_message (Packet payload) = is_last (command_in payload)
+is_last_message other = false
 
 -- all that is said to messages, one after the other, up to the one at which gdb leaves
 unfoldable pub said_to_all : Recording → TalkState → List Message → List ℕ
 said_to_all r t [] = []
 said_to_all r t (message ∷ rest) = said_to r t message
-    ++ (if is_end message then [] else said_to_all r (after_message r t message) rest)
+    ++ (if is_last_message message then [] else said_to_all r (after_message r t message) rest)
 
 -- all that is said to the messages of bytes
 abbrev pub all_said : Recording → TalkState → List ℕ → List ℕ
@@ -80,7 +80,7 @@ at_begin = record { session = record { place = 0; pcs = []; watched = [] }; sent
 
 -- what contracts see of a talk
 abbrev pub talk_of : {Y : Type 0} → Talk Y → TalkState
-talk_of t = record { session = state_of t.session; sent = t.sent.items }
+talk_of t = record { session = session_state t.session; sent = t.sent.items }
 
 -- no read is among transfers
 abbrev pub AreSent : List Transfer → Type 0
@@ -114,9 +114,9 @@ is_whole (Some WriteFault) = false
 is_whole (Some NoMemory) = false
 
 -- the end of a talk, if it has ended before gdb left
-abbrev pub end_of : {A : Type 0} → Result A TalkEnd → Option TalkEnd
-end_of (Ok a) = None
-end_of (Err end) = Some end
+abbrev pub early_end : {A : Type 0} → Result A TalkEnd → Option TalkEnd
+early_end (Ok a) = None
+early_end (Err end) = Some end
 
 -- a text was sent, all of it or otherwise a front of it, and nothing was read
 pub record HasSaid {C : Type 0} (K : connections.Ghosts C) (all : Bool) (text : List ℕ) (old new : C)

@@ -5,8 +5,8 @@ ghost use Rattle.gdb_packets.specs.Digits.{hex};
 ghost use Rattle.gdb_commands.specs.declared.commands.Command.TheVariants as command;
 ghost use Rattle.run_positions.specs.Looks.{offset_of};
 ghost use Rattle.run_positions.specs.Positions.{shown_of};
-ghost use Rattle.gdb_stub.specs.Answers.{answer_to, clear_text, fixed_text, line_at, part_of, look_text, position_line, walk_line};
-ghost use Rattle.gdb_stub.specs.Sessions.{recording_of, shown, state_after, state_of, IsHeld, KeepsSession};
+ghost use Rattle.gdb_stub.specs.Answers.{answer_to, clear_text, fixed_text, line_at, description_part, look_text, position_line, walk_line};
+ghost use Rattle.gdb_stub.specs.Sessions.{recording_of, machine_shown, state_after, session_state, ShowsPosition, KeepsSession};
 
 use crate::looking::memory;
 use crate::register_texts::{error, number_text, register, registers};
@@ -53,7 +53,7 @@ fn front(bytes: &[u8], n: u64) -> &[u8]
 
 // A part of the description.
 fn part_of(alloc: Global, description: &[u8], place: Place) -> Result<Vec<u8>, NoMemory>
-    ensures { IfOk result (λ text. text.items ≡ part_of description.now place) }
+    ensures { IfOk result (λ text. text.items ≡ description_part description.now place) }
 {
     let rest = behind(description, place.address);
     let part = front(rest, place.length);
@@ -100,11 +100,11 @@ fn walk_line(alloc: Global, offset: Option<u64>) -> Result<Vec<u8>, NoMemory>
 impl<R: Runner + Drop> Session<R> {
     // The line that tells what stands behind `monitor`, which has moved the run.
     fn line(&mut self, alloc: Global, request: Request) -> Result<Vec<u8>, NoMemory>
-        requires held { IsHeld R.Runner self.old }
+        requires held { ShowsPosition R.Runner self.old }
         ensures keeps { KeepsSession R.Runner self.old self.new }
-        ensures state { state_of self.new ≡ state_of self.old }
+        ensures state { session_state self.new ≡ session_state self.old }
         ensures text { IfOk result (λ text.
-            text.items ≡ line_at (recording_of R.Runner self.old) (state_of self.old) request) }
+            text.items ≡ line_at (recording_of R.Runner self.old) (session_state self.old) request) }
     {
         match request {
             Request::Step(_) | Request::GoTo(_) => position_line(alloc, self.positions.place()),
@@ -119,12 +119,12 @@ impl<R: Runner + Drop> Session<R> {
 
     // Goes where what stands behind `monitor` says, and tells it.
     fn monitor(&mut self, alloc: Global, request: Request) -> Result<Vec<u8>, NoMemory>
-        requires held { IsHeld R.Runner self.old }
+        requires held { ShowsPosition R.Runner self.old }
         ensures keeps { KeepsSession R.Runner self.old self.new }
-        ensures state { OnOk result (state_of self.new
-            ≡ state_after (recording_of R.Runner self.old) (state_of self.old) (command.Monitor request)) }
+        ensures state { OnOk result (session_state self.new
+            ≡ state_after (recording_of R.Runner self.old) (session_state self.old) (command.Monitor request)) }
         ensures text { IfOk result (λ text. text.items
-            ≡ answer_to (recording_of R.Runner self.old) (state_of self.old) (command.Monitor request)) }
+            ≡ answer_to (recording_of R.Runner self.old) (session_state self.old) (command.Monitor request)) }
     {
         self.ask(alloc, request)?;
         let line = self.line(alloc, request)?;
@@ -133,20 +133,20 @@ impl<R: Runner + Drop> Session<R> {
 
     // Memory from an address on.
     fn memory(&mut self, alloc: Global, place: Place) -> Result<Vec<u8>, NoMemory>
-        requires held { IsHeld R.Runner self.old }
+        requires held { ShowsPosition R.Runner self.old }
         ensures keeps { KeepsSession R.Runner self.old self.new }
-        ensures state { state_of self.new ≡ state_of self.old }
+        ensures state { session_state self.new ≡ session_state self.old }
         ensures text { IfOk result (λ text. text.items
-            ≡ answer_to (recording_of R.Runner self.old) (state_of self.old) (command.Memory place)) }
+            ≡ answer_to (recording_of R.Runner self.old) (session_state self.old) (command.Memory place)) }
     {
         memory(alloc, &mut self.positions, place.address, place.length)
     }
 
     // What registers have, and a part of the description.
     fn looked(&self, alloc: Global, command: Command) -> Result<Vec<u8>, NoMemory>
-        requires held { IsHeld R.Runner self.now }
+        requires held { ShowsPosition R.Runner self.now }
         ensures { IfOk result (λ text. text.items
-            ≡ look_text (recording_of R.Runner self.now) (state_of self.now) command) }
+            ≡ look_text (recording_of R.Runner self.now) (session_state self.now) command) }
     {
         let state = self.positions.runner().state();
         match command {
@@ -176,12 +176,12 @@ impl<R: Runner + Drop> Session<R> {
 
     /// Does what a command asks for, and answers it. Where there is no memory for it, the position is any.
     pub(crate) fn answer(&mut self, alloc: Global, command: Command) -> Result<Vec<u8>, NoMemory>
-        requires held { IsHeld R.Runner self.old }
+        requires held { ShowsPosition R.Runner self.old }
         ensures keeps { KeepsSession R.Runner self.old self.new }
-        ensures state { OnOk result (state_of self.new
-            ≡ state_after (recording_of R.Runner self.old) (state_of self.old) command) }
+        ensures state { OnOk result (session_state self.new
+            ≡ state_after (recording_of R.Runner self.old) (session_state self.old) command) }
         ensures text { IfOk result (λ text. text.items
-            ≡ answer_to (recording_of R.Runner self.old) (state_of self.old) command) }
+            ≡ answer_to (recording_of R.Runner self.old) (session_state self.old) command) }
     {
         match command {
             Command::Step => self.travel(alloc, Move::Step),

@@ -1,8 +1,8 @@
 // Moves of a run, as gdb asks for them.
 
 ghost use Rattle.std.specs.Prelude.{◌≡◌, ◌+◌, ◌-◌, ◌^◌, ◌≤◌, IfOk, OnOk};
-ghost use Rattle.gdb_stub.specs.Answers.{end_by, has_pc, is_at_begin, is_over, move_text, stop_or_end, text_with, watch_text};
-ghost use Rattle.gdb_stub.specs.Sessions.{before, clamped, come_to, moved, place_for, place_with, reached, recording_of, seen_in, shown, state_of, stops_by, stops_in, IsHeld, KeepsSession};
+ghost use Rattle.gdb_stub.specs.Answers.{move_end_text, has_pc, is_at_begin, is_over, move_text, stop_or_end, watch_or_end, watch_text};
+ghost use Rattle.gdb_stub.specs.Sessions.{one_step_short, clamped, come_to, after_move, place_for, place_with, position_reached, recording_of, seen_in, machine_shown, session_state, stops_by, stops_in, ShowsPosition, KeepsSession};
 ghost use Rattle.run_positions.specs.Stops.{goes_on};
 
 use crate::register_texts::number_text;
@@ -49,7 +49,7 @@ fn goes_on(status: Status) -> bool
 // The position before the step that a move would make last.
 fn before(way: Move, n: u64) -> u64
     requires { n ≤ 2 ^ 52 }
-    ensures value { result ≡ before way n }
+    ensures value { result ≡ one_step_short way n }
     ensures few { result ≤ 2 ^ 52 }
 {
     match way {
@@ -81,18 +81,18 @@ fn watch_text(alloc: Global, address: u64) -> Result<Vec<u8>, NoMemory>
 impl<R: Runner + Drop> Session<R> {
     // Shows the run at a position.
     fn go_to(&mut self, alloc: Global, n: u64) -> Result<(), NoMemory>
-        requires held { IsHeld R.Runner self.old }
+        requires held { ShowsPosition R.Runner self.old }
         requires few { n ≤ 2 ^ 52 }
         ensures keeps { KeepsSession R.Runner self.old self.new }
-        ensures state { OnOk result (state_of self.new ≡ record (state_of self.old) { place = n }) }
+        ensures state { OnOk result (session_state self.new ≡ record (session_state self.old) { place = n }) }
     {
         self.positions.go_to(alloc, n)
     }
 
     // The position after a step, which is made where the machine goes on.
     fn next(&self) -> u64
-        requires held { IsHeld R.Runner self.now }
-        ensures value { result ≡ reached (recording_of R.Runner self.now) (state_of self.now) Move.Step }
+        requires held { ShowsPosition R.Runner self.now }
+        ensures value { result ≡ position_reached (recording_of R.Runner self.now) (session_state self.now) Move.Step }
         ensures few { result ≤ 2 ^ 52 }
     {
         let place = self.positions.place();
@@ -105,12 +105,12 @@ impl<R: Runner + Drop> Session<R> {
 
     // Goes on to a stop, where the machine goes on.
     fn go_on(&mut self, alloc: Global, seen: &[(Watched, u8)]) -> Result<(), NoMemory>
-        requires held { IsHeld R.Runner self.old }
-        requires seen { seen.now ≡ seen_in (shown (recording_of R.Runner self.old) (state_of self.old))
+        requires held { ShowsPosition R.Runner self.old }
+        requires seen { seen.now ≡ seen_in (machine_shown (recording_of R.Runner self.old) (session_state self.old))
             self.old.watched.items }
         ensures keeps { KeepsSession R.Runner self.old self.new }
-        ensures state { OnOk result (state_of self.new
-            ≡ come_to (recording_of R.Runner self.old) (state_of self.old) Move.Continue) }
+        ensures state { OnOk result (session_state self.new
+            ≡ come_to (recording_of R.Runner self.old) (session_state self.old) Move.Continue) }
     {
         if goes_on(self.positions.runner().status()) {
             let stops = stops_by(alloc, self.pcs.as_slice(), seen)?;
@@ -121,12 +121,12 @@ impl<R: Runner + Drop> Session<R> {
 
     // Goes back to a stop, or to the start.
     fn go_back(&mut self, alloc: Global, seen: &[(Watched, u8)]) -> Result<(), NoMemory>
-        requires held { IsHeld R.Runner self.old }
-        requires seen { seen.now ≡ seen_in (shown (recording_of R.Runner self.old) (state_of self.old))
+        requires held { ShowsPosition R.Runner self.old }
+        requires seen { seen.now ≡ seen_in (machine_shown (recording_of R.Runner self.old) (session_state self.old))
             self.old.watched.items }
         ensures keeps { KeepsSession R.Runner self.old self.new }
-        ensures state { OnOk result (state_of self.new
-            ≡ come_to (recording_of R.Runner self.old) (state_of self.old) Move.ContinueBack) }
+        ensures state { OnOk result (session_state self.new
+            ≡ come_to (recording_of R.Runner self.old) (session_state self.old) Move.ContinueBack) }
     {
         let stops = stops_by(alloc, self.pcs.as_slice(), seen)?;
         self.positions.back_to_stop(alloc, &stops)
@@ -134,12 +134,12 @@ impl<R: Runner + Drop> Session<R> {
 
     // Makes a move, from where watched bytes are these.
     fn go(&mut self, alloc: Global, way: Move, seen: &[(Watched, u8)]) -> Result<(), NoMemory>
-        requires held { IsHeld R.Runner self.old }
-        requires seen { seen.now ≡ seen_in (shown (recording_of R.Runner self.old) (state_of self.old))
+        requires held { ShowsPosition R.Runner self.old }
+        requires seen { seen.now ≡ seen_in (machine_shown (recording_of R.Runner self.old) (session_state self.old))
             self.old.watched.items }
         ensures keeps { KeepsSession R.Runner self.old self.new }
-        ensures state { OnOk result (state_of self.new
-            ≡ come_to (recording_of R.Runner self.old) (state_of self.old) way) }
+        ensures state { OnOk result (session_state self.new
+            ≡ come_to (recording_of R.Runner self.old) (session_state self.old) way) }
     {
         match way {
             Move::Step => {
@@ -157,16 +157,16 @@ impl<R: Runner + Drop> Session<R> {
 
     // Whether the run is to stop at the address of its next instruction.
     fn is_at_pc(&self) -> bool
-        requires held { IsHeld R.Runner self.now }
+        requires held { ShowsPosition R.Runner self.now }
         ensures { result ≡ has_pc self.now.pcs.items
-            (shown (recording_of R.Runner self.now) (state_of self.now)) }
+            (machine_shown (recording_of R.Runner self.now) (session_state self.now)) }
     {
         self.pcs.contains(&self.positions.runner().state().regs.pc)
     }
 
     // Whether the position is the end of a run that stops at no address there.
     fn is_over(&self) -> bool
-        requires held { IsHeld R.Runner self.now }
+        requires held { ShowsPosition R.Runner self.now }
         ensures { result ≡ is_over (recording_of R.Runner self.now) self.now.pcs.items
             self.now.positions.place }
     {
@@ -178,7 +178,7 @@ impl<R: Runner + Drop> Session<R> {
 
     // And whether it is the start of one.
     fn is_at_begin(&self) -> bool
-        requires held { IsHeld R.Runner self.now }
+        requires held { ShowsPosition R.Runner self.now }
         ensures { result ≡ is_at_begin (recording_of R.Runner self.now) self.now.pcs.items
             self.now.positions.place }
     {
@@ -190,8 +190,8 @@ impl<R: Runner + Drop> Session<R> {
 
     // Why the run has stopped where a move from a position has come to, if not by a write.
     fn end_by(&self, alloc: Global, way: Move, from: u64) -> Result<Vec<u8>, NoMemory>
-        requires held { IsHeld R.Runner self.now }
-        ensures { IfOk result (λ text. text.items ≡ end_by (recording_of R.Runner self.now)
+        requires held { ShowsPosition R.Runner self.now }
+        ensures { IfOk result (λ text. text.items ≡ move_end_text (recording_of R.Runner self.now)
             self.now.pcs.items from self.now.positions.place way) }
     {
         let stays = self.positions.place() == from;
@@ -211,12 +211,12 @@ impl<R: Runner + Drop> Session<R> {
         from: u64,
         changed: Option<u64>,
     ) -> Result<Vec<u8>, NoMemory>
-        requires held { IsHeld R.Runner self.old }
+        requires held { ShowsPosition R.Runner self.old }
         ensures keeps { KeepsSession R.Runner self.old self.new }
-        ensures state { OnOk result (state_of self.new ≡ record (state_of self.old)
+        ensures state { OnOk result (session_state self.new ≡ record (session_state self.old)
             { place = place_with changed way self.old.positions.place }) }
-        ensures text { IfOk result (λ text. text.items ≡ text_with changed
-            (end_by (recording_of R.Runner self.old) self.old.pcs.items from self.old.positions.place way)) }
+        ensures text { IfOk result (λ text. text.items ≡ watch_or_end changed
+            (move_end_text (recording_of R.Runner self.old) self.old.pcs.items from self.old.positions.place way)) }
     {
         match changed {
             Some(address) => {
@@ -231,12 +231,12 @@ impl<R: Runner + Drop> Session<R> {
     /// Makes a move, and answers why the run has stopped. Where there is no memory for it, the position is
     /// any.
     pub(crate) fn travel(&mut self, alloc: Global, way: Move) -> Result<Vec<u8>, NoMemory>
-        requires held { IsHeld R.Runner self.old }
+        requires held { ShowsPosition R.Runner self.old }
         ensures keeps { KeepsSession R.Runner self.old self.new }
-        ensures state { OnOk result (state_of self.new
-            ≡ moved (recording_of R.Runner self.old) (state_of self.old) way) }
+        ensures state { OnOk result (session_state self.new
+            ≡ after_move (recording_of R.Runner self.old) (session_state self.old) way) }
         ensures text { IfOk result (λ text. text.items
-            ≡ move_text (recording_of R.Runner self.old) (state_of self.old) way) }
+            ≡ move_text (recording_of R.Runner self.old) (session_state self.old) way) }
     {
         let seen = seen_in(alloc, self.watched.as_slice(), self.positions.runner())?;
         let from = self.positions.place();
@@ -247,9 +247,9 @@ impl<R: Runner + Drop> Session<R> {
 
     /// Goes where what stands behind `monitor` says.
     pub(crate) fn ask(&mut self, alloc: Global, request: Request) -> Result<(), NoMemory>
-        requires held { IsHeld R.Runner self.old }
+        requires held { ShowsPosition R.Runner self.old }
         ensures keeps { KeepsSession R.Runner self.old self.new }
-        ensures state { OnOk result (state_of self.new ≡ record (state_of self.old)
+        ensures state { OnOk result (session_state self.new ≡ record (session_state self.old)
             { place = place_for request self.old.last self.old.positions.place }) }
     {
         let place = place_for(request, self.last, self.positions.place());

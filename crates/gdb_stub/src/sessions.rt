@@ -2,7 +2,7 @@
 
 ghost use Rattle.std.specs.Prelude.{◌≡◌, ◌^◌, ◌≤◌, [], IfOk};
 ghost use Rattle.run_positions.specs.Positions.{IsShown};
-ghost use Rattle.gdb_stub.specs.Sessions.{recording_of, state_of, IsHeld};
+ghost use Rattle.gdb_stub.specs.Sessions.{recording_of, session_state, ShowsPosition};
 
 use gdb_commands::Place;
 use no_memory::NoMemory;
@@ -46,10 +46,10 @@ impl<R: Runner + Drop> Session<R> {
     ) -> Result<Session<R>, NoMemory>
         requires early { (R.machine runner).platform.steps ≤ 2 ^ 60 }
         requires few { last ≤ 2 ^ 52 }
-        ensures held { IfOk result (IsHeld R.Runner) }
+        ensures held { IfOk result (ShowsPosition R.Runner) }
         ensures recording { IfOk result (λ s. recording_of R.Runner s
             ≡ record { begin = R.machine runner; last = last; description = description.now }) }
-        ensures state { IfOk result (λ s. state_of s ≡ record { place = 0; pcs = []; watched = [] }) }
+        ensures state { IfOk result (λ s. session_state s ≡ record { place = 0; pcs = []; watched = [] }) }
     {
         let description = Vec::from_slice(alloc, description)?;
         let positions = Positions::new(alloc, runner)?;

@@ -4,7 +4,7 @@ ghost use Rattle.std.specs.Prelude.{◌≡◌, ◌++◌, [], IfOk, OnOk, drop, m
 ghost use Rattle.std.specs.List.{filter};
 ghost use Rattle.gdb_stub.specs.Answers.{set_text};
 ghost use Rattle.gdb_stub.specs.Looking.{most_shown};
-ghost use Rattle.gdb_stub.specs.Sessions.{changed_in, is_same, pcs_without, recording_of, seen_in, shown, state_of, offsets_for, stops_by, watched_at, watched_without, with_stop, without_stop, IsHeld, KeepsSession};
+ghost use Rattle.gdb_stub.specs.Sessions.{changed_in, is_same, pcs_without, recording_of, seen_in, machine_shown, session_state, offsets_for, stops_by, watched_at, watched_without, with_stop, without_stop, ShowsPosition, KeepsSession};
 
 use crate::looking::{MOST, offsets_in};
 use crate::sessions::{Session, Watched};
@@ -130,10 +130,10 @@ fn set_text(kind: StopKind, offsets: &[u64]) -> &'static [u8]
 impl<R: Runner + Drop> Session<R> {
     // Stops at an address too.
     fn stop_at(&mut self, alloc: Global, address: u64) -> Result<(), NoMemory>
-        requires held { IsHeld R.Runner self.old }
+        requires held { ShowsPosition R.Runner self.old }
         ensures keeps { KeepsSession R.Runner self.old self.new }
-        ensures state { OnOk result (state_of self.new
-            ≡ with_stop (recording_of R.Runner self.old) (state_of self.old) StopKind.Instruction
+        ensures state { OnOk result (session_state self.new
+            ≡ with_stop (recording_of R.Runner self.old) (session_state self.old) StopKind.Instruction
             (record { address = address; length = 0 })) }
     {
         let mut pcs = pcs_without(alloc, address, self.pcs.as_slice())?;
@@ -144,9 +144,9 @@ impl<R: Runner + Drop> Session<R> {
 
     // Watches bytes at these offsets.
     fn watch(&mut self, alloc: Global, place: Place, offsets: &[u64]) -> Result<(), NoMemory>
-        requires held { IsHeld R.Runner self.old }
+        requires held { ShowsPosition R.Runner self.old }
         ensures keeps { KeepsSession R.Runner self.old self.new }
-        ensures state { OnOk result (state_of self.new ≡ record (state_of self.old)
+        ensures state { OnOk result (session_state self.new ≡ record (session_state self.old)
             { watched = watched_without place self.old.watched.items ++ watched_at place offsets.now }) }
     {
         let mut watched = watched_without(alloc, &place, self.watched.as_slice())?;
@@ -162,12 +162,12 @@ impl<R: Runner + Drop> Session<R> {
         kind: StopKind,
         place: Place,
     ) -> Result<Vec<u8>, NoMemory>
-        requires held { IsHeld R.Runner self.old }
+        requires held { ShowsPosition R.Runner self.old }
         ensures keeps { KeepsSession R.Runner self.old self.new }
-        ensures state { OnOk result (state_of self.new
-            ≡ with_stop (recording_of R.Runner self.old) (state_of self.old) kind place) }
+        ensures state { OnOk result (session_state self.new
+            ≡ with_stop (recording_of R.Runner self.old) (session_state self.old) kind place) }
         ensures text { IfOk result (λ text. text.items ≡ set_text kind
-            (offsets_for (shown (recording_of R.Runner self.old) (state_of self.old)) place)) }
+            (offsets_for (machine_shown (recording_of R.Runner self.old) (session_state self.old)) place)) }
     {
         let offsets = offsets_in(
             alloc,
@@ -191,9 +191,9 @@ impl<R: Runner + Drop> Session<R> {
         kind: StopKind,
         place: Place,
     ) -> Result<(), NoMemory>
-        requires held { IsHeld R.Runner self.old }
+        requires held { ShowsPosition R.Runner self.old }
         ensures keeps { KeepsSession R.Runner self.old self.new }
-        ensures state { OnOk result (state_of self.new ≡ without_stop (state_of self.old) kind place) }
+        ensures state { OnOk result (session_state self.new ≡ without_stop (session_state self.old) kind place) }
     {
         match kind {
             StopKind::Instruction => {

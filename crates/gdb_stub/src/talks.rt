@@ -3,8 +3,8 @@
 ghost use Rattle.std.specs.Prelude.{◌≡◌, ◌≤◌, ◌++◌, [], not, codes, is_ok, IfOk, IsErrOf, OnOk};
 ghost use Rattle.gdb_commands.specs.Commands.{command_in};
 ghost use Rattle.outside.specs.Faults.{Rose};
-ghost use Rattle.gdb_stub.specs.Sessions.{recording_of, state_after, state_of, IsHeld, KeepsSession};
-ghost use Rattle.gdb_stub.specs.Talks.{after_command, after_message, end_of, is_end, is_kill, is_last, packet_for, said_to, said_to_command, talk_of, HasGoneOn, HasCome, HasSaid, HasTalked};
+ghost use Rattle.gdb_stub.specs.Sessions.{recording_of, state_after, session_state, ShowsPosition, KeepsSession};
+ghost use Rattle.gdb_stub.specs.Talks.{after_command, after_message, early_end, is_last_message, is_kill, is_last, packet_for, said_to, said_to_command, talk_of, HasGoneOn, HasCome, HasSaid, HasTalked};
 ghost use Rattle.gdb_stub.specs.declared.talks.TalkEnd.TheVariants as talk_end;
 
 use crate::sessions::Session;
@@ -104,7 +104,7 @@ impl<R: Runner + Drop> Talk<R> {
     /// The talk about a session, of which nothing has been said.
     pub fn new(alloc: Global, session: Session<R>) -> Talk<R>
         ensures session { result.session ≡ session }
-        ensures talk { talk_of result ≡ record { session = state_of session; sent = [] } }
+        ensures talk { talk_of result ≡ record { session = session_state session; sent = [] } }
         ensures come { result.come ≡ [] }
     {
         Talk {
@@ -116,12 +116,12 @@ impl<R: Runner + Drop> Talk<R> {
 
     // Does what a command asks for, and answers the packet that says so.
     fn obey(&mut self, alloc: Global, command: Command) -> Result<Vec<u8>, NoMemory>
-        requires held { IsHeld R.Runner self.old.session }
+        requires held { ShowsPosition R.Runner self.old.session }
         ensures keeps { KeepsSession R.Runner self.old.session self.new.session }
-        ensures state { OnOk result (state_of self.new.session
-            ≡ state_after (recording_of R.Runner self.old.session) (state_of self.old.session) command) }
+        ensures state { OnOk result (session_state self.new.session
+            ≡ state_after (recording_of R.Runner self.old.session) (session_state self.old.session) command) }
         ensures packet { IfOk result (λ packet. packet.items
-            ≡ packet_for (recording_of R.Runner self.old.session) (state_of self.old.session) command) }
+            ≡ packet_for (recording_of R.Runner self.old.session) (session_state self.old.session) command) }
         ensures come { self.new.come ≡ self.old.come }
     {
         let answer = self.session.answer(alloc, command)?;
@@ -139,7 +139,7 @@ impl<R: Runner + Drop> Talk<R> {
         payload: &[u8],
         connection: &mut C,
     ) -> Result<bool, TalkEnd>
-        requires held { IsHeld R.Runner self.old.session }
+        requires held { ShowsPosition R.Runner self.old.session }
         ensures keeps { KeepsSession R.Runner self.old.session self.new.session }
         ensures said { HasSaid C.Connection (is_ok result) (said_to_command
             (recording_of R.Runner self.old.session) (talk_of self.old) (command_in payload.now))
@@ -169,14 +169,14 @@ impl<R: Runner + Drop> Talk<R> {
         message: Message,
         connection: &mut C,
     ) -> Result<bool, TalkEnd>
-        requires held { IsHeld R.Runner self.old.session }
+        requires held { ShowsPosition R.Runner self.old.session }
         ensures keeps { KeepsSession R.Runner self.old.session self.new.session }
         ensures said { HasSaid C.Connection (is_ok result)
             (said_to (recording_of R.Runner self.old.session) (talk_of self.old) message)
             connection.old connection.new }
         ensures talk { OnOk result (talk_of self.new ≡ after_message
             (recording_of R.Runner self.old.session) (talk_of self.old) message) }
-        ensures last { IfOk result (λ stays. stays ≡ not (is_end message)) }
+        ensures last { IfOk result (λ stays. stays ≡ not (is_last_message message)) }
         ensures come { self.new.come ≡ self.old.come }
         ensures no_read { ¬ IsErrOf result TalkEnd.ReadFault }
         ensures write_cause { IsErrOf result TalkEnd.WriteFault
@@ -201,7 +201,7 @@ impl<R: Runner + Drop> Talk<R> {
     // Answers a message that has come, or waits for more where none is left; whether gdb stays.
     #[tactic(auto, using(crate::proofs::Talking::talkings))]
     fn go_on<C: Connection>(&mut self, alloc: Global, connection: &mut C) -> Result<bool, TalkEnd>
-        requires held { IsHeld R.Runner self.old.session }
+        requires held { ShowsPosition R.Runner self.old.session }
         ensures keeps { KeepsSession R.Runner self.old.session self.new.session }
         ensures talked { HasGoneOn C.Connection (recording_of R.Runner self.old.session)
             (talk_of self.old) (talk_of self.new) self.old.come self.new.come result
@@ -227,10 +227,10 @@ impl<R: Runner + Drop> Talk<R> {
     /// shown is that of the run at its position.
     #[tactic(auto, using(crate::proofs::Talking::talkings))]
     pub fn serve<C: Connection>(&mut self, alloc: Global, connection: &mut C) -> Result<(), TalkEnd>
-        requires held { IsHeld R.Runner self.old.session }
+        requires held { ShowsPosition R.Runner self.old.session }
         ensures keeps { KeepsSession R.Runner self.old.session self.new.session }
         ensures talked { HasTalked C.Connection (recording_of R.Runner self.old.session)
-            (talk_of self.old) self.old.come (end_of result) connection.old connection.new }
+            (talk_of self.old) self.old.come (early_end result) connection.old connection.new }
         ensures read_cause { IsErrOf result TalkEnd.ReadFault
             → Rose (C.read_faults connection.old) (C.read_faults connection.new) }
         ensures read_count { C.read_faults connection.old ≤ C.read_faults connection.new }

@@ -19,8 +19,8 @@ use Rattle.guest_turns.specs.Sources.{machine_of_source, machines_of_sources}
 use Rattle.machine_defs.specs.Machine.{Machine}
 use Rattle.nesthv_top.specs.declared.ends.Ended.{Ended}
 use Rattle.nesthv_top.specs.declared.ends.Ended.TheVariants.{Done, Differs, NoCommand, Refused, ReadFault, WriteFault, NoMemory}
-use Rattle.nesthv_top.specs.Endings.{HasPlan, IsFor, IsRefusal, ReadsFrom, SaysOfReads}
-use Rattle.nesthv_top.specs.Plans.{Plan, fault_of, plan_of}
+use Rattle.nesthv_top.specs.Endings.{HasPlan, IsEndFor, IsRefusal, ReadsFrom, SaysOfReads}
+use Rattle.nesthv_top.specs.Plans.{Plan, command_fault, plan_of}
 use Rattle.nesthv_top.specs.Reads.{file_steps}
 use Rattle.nesthv_top.specs.Statuses.{status_of}
 use Rattle.nesthv_top.specs.Steps.{asks_in, ArePassed}
@@ -112,25 +112,25 @@ module _ {X C : Type 0} (S : stores.Ghosts X) (K : connections.Ghosts C) (comman
   write_fault (NoMemory n) four says = absurd (omega (arith, four))
 
   -- a command that has a fault has no plan, and so no talk
-  no_talk : {P : Type 0} (files : Files) (Q : Command → Plan → Type 0) → ReadsFrom (S.files store) command files → IsSome (fault_of files command)
+  no_talk : {P : Type 0} (files : Files) (Q : Command → Plan → Type 0) → ReadsFrom (S.files store) command files → IsSome (command_fault files command)
       → HasPlan (S.files store) command (λ files command plan. Q command plan) → P
   no_talk files Q told fault talk = absurd (not_both files command (has_plan files command _ (talk files told)) fault)
 
   refused_fault : (files : Files) (ended : Ended) → ReadsFrom (S.files store) command files → SaysOfReads S command (files_end ended) store store'
-      → status_of ended ≡ 2 → IsSome (fault_of files command)
+      → status_of ended ≡ 2 → IsSome (command_fault files command)
   refused_fault files Done told reads two = absurd (omega (arith, two))
   refused_fault files Differs told reads two = absurd (omega (arith, two))
   refused_fault files NoCommand told reads two = absurd (omega (arith, two))
-  refused_fault files (Refused found) told reads two = known (fault_of files command) found (reads.fault files told)
+  refused_fault files (Refused found) told reads two = known (command_fault files command) found (reads.fault files told)
   refused_fault files (ReadFault n) told reads two = absurd (omega (arith, two))
   refused_fault files WriteFault told reads two = absurd (omega (arith, two))
   refused_fault files (NoMemory n) told reads two = absurd (omega (arith, two))
 
 module _ {X C : Type 0} (S : stores.Ghosts X) (K : connections.Ghosts C) (words : List (List ℕ)) (description : List ℕ)
     (store store' : X) (connection connection' : C) where
-  refuses : (files : Files) (ended : Ended) → ReadsFrom (S.files store) (debug_command words) files → IsFor ended (saving_words words)
+  refuses : (files : Files) (ended : Ended) → ReadsFrom (S.files store) (debug_command words) files → IsEndFor ended (saving_words words)
       → SaysOfTalk K (S.files store) (debug_command words) description ended connection connection'
-      → IsSome (fault_of files (debug_command words)) → (status_of ended ≡ 2) ⊎ (status_of ended ≡ 3) ⊎ (status_of ended ≡ 5)
+      → IsSome (command_fault files (debug_command words)) → (status_of ended ≡ 2) ⊎ (status_of ended ≡ 3) ⊎ (status_of ended ≡ 5)
   refuses files Done told is talk fault = no_talk S K (debug_command words) description store store' connection connection' files _ told fault talk
   refuses files Differs told is talk fault = absurd (never_replayed words is)
   refuses files NoCommand told is talk fault = let none = rw is at fault in cc
@@ -139,7 +139,7 @@ module _ {X C : Type 0} (S : stores.Ghosts X) (K : connections.Ghosts C) (words 
   refuses files WriteFault told is talk fault = no_talk S K (debug_command words) description store store' connection connection' files _ told fault talk
   refuses files (NoMemory n) told is talk fault = inr (inr refl)
 
-  pub refusal : (ended : Ended) → IsFor ended (saving_words words) → SaysOfReads S (debug_command words) (files_end ended) store store'
+  pub refusal : (ended : Ended) → IsEndFor ended (saving_words words) → SaysOfReads S (debug_command words) (files_end ended) store store'
       → SaysOfTalk K (S.files store) (debug_command words) description ended connection connection'
       → IsRefusal (S.files store) (debug_command words) (status_of ended)
   refusal ended is reads talk = record {
@@ -147,7 +147,7 @@ module _ {X C : Type 0} (S : stores.Ghosts X) (K : connections.Ghosts C) (words 
     always = λ files told. refuses files ended told is talk;
   }
 
-  pub complete : (files : Files) (ended : Ended) → ReadsFrom (S.files store) (debug_command words) files → IsFor ended (saving_words words)
+  pub complete : (files : Files) (ended : Ended) → ReadsFrom (S.files store) (debug_command words) files → IsEndFor ended (saving_words words)
       → SaysOfReads S (debug_command words) (files_end ended) store store' → SaysOfCauses S K ended store store' connection connection'
       → IsSome (plan_of files (debug_command words)) → ¬ Rose (S.faults store) (S.faults store')
       → ¬ Rose (K.read_faults connection) (K.read_faults connection') → ¬ Rose (K.write_faults connection) (K.write_faults connection')
@@ -156,7 +156,7 @@ module _ {X C : Type 0} (S : stores.Ghosts X) (K : connections.Ghosts C) (words 
   complete files Differs told is reads causes plan file read write = absurd (never_replayed words is)
   complete files NoCommand told is reads causes plan file read write = let none = rw is at plan in cc
   complete files (Refused found) told is reads causes plan file read write =
-      absurd (not_both files (debug_command words) plan (known (fault_of files (debug_command words)) found (reads.fault files told)))
+      absurd (not_both files (debug_command words) plan (known (command_fault files (debug_command words)) found (reads.fault files told)))
   complete files (ReadFault zero) told is reads causes plan file read write = absurd (read causes.read)
   complete files (ReadFault (suc n)) told is reads causes plan file read write = absurd (file causes.read)
   complete files WriteFault told is reads causes plan file read write = absurd (write causes.write)

@@ -2,14 +2,14 @@
 use Rattle.std.proofs.Common.{arith, refl, sym, ◌≡◌, ◌≤◌, drop, length, ℕ, Bool, true, false, List, [], ◌∷◌, Option, Some, None, option_map}
 use Rattle.std.specs.Prelude.{⊤, codes, if◌then◌else◌}
 use Rattle.std.specs.List.{list_all}
-use Rattle.command_line.specs.Commands.{Command, OnFiles, Run, Replay, Check, Save, Work, asked_by, command_of, guest_of, is_plain}
+use Rattle.command_line.specs.Commands.{Command, OnFiles, Run, Replay, Check, Save, Work, asked_by, command_of, guest_number, is_plain}
 use Rattle.command_line.specs.declared.commands.FileRequest.{FileRequest}
 use Rattle.command_line.specs.Seen.{file_command_seen}
 use Rattle.gdb_top.specs.Debugging.{are_plain, debug_command, saving_words, IsSave}
 use Rattle.outside.specs.declared.stores.Store as stores
 use Rattle.nesthv_top.specs.declared.ends.Ended.{Ended}
 use Rattle.nesthv_top.specs.declared.ends.Ended.TheVariants.{NoCommand}
-use Rattle.nesthv_top.specs.Endings.{IsFor, IsOfCommand, IsReplay, SaysOfReads}
+use Rattle.nesthv_top.specs.Endings.{IsEndFor, IsOfCommand, IsReplay, SaysOfReads}
 use Rattle.nesthv_top.proofs.CommandReads.{no_command_says}
 use Rattle.nesthv_top.proofs.Telling.{is_for}
 use Rattle.nesthv_top.specs.Statuses.{ArePlain}
@@ -26,7 +26,7 @@ of_guest config None = tt
 by_words : (words : List (List ℕ)) → Saves (asked_by (codes "save" ∷ words))
 by_words [] = tt
 by_words (config ∷ []) = tt
-by_words (config ∷ guest ∷ []) = of_guest config (guest_of guest)
+by_words (config ∷ guest ∷ []) = of_guest config (guest_number guest)
 by_words (config ∷ guest ∷ more ∷ words) = tt
 
 if_plain : (plain : Bool) (words : List (List ℕ)) → Saves (if plain then asked_by (codes "save" ∷ words) else None)
@@ -86,7 +86,7 @@ pub ruleset plainly = (plain_rest, plain_none)
 
 -- a command of the debugger, by its words
 pub asks_for : (words all : List (List ℕ)) (request : FileRequest) (ended : Ended) → all ≡ saving_words words
-    → Some (OnFiles (file_command_seen request)) ≡ command_of all → IsOfCommand (OnFiles (file_command_seen request)) ended → IsFor ended (saving_words words)
+    → Some (OnFiles (file_command_seen request)) ≡ command_of all → IsOfCommand (OnFiles (file_command_seen request)) ended → IsEndFor ended (saving_words words)
 asks_for words all request ended behind asked is = rw (← behind) (is_for all (OnFiles (file_command_seen request)) ended (sym asked) is)
 
 pub ruleset saves_alone = (asks_save, asks_no_work, asks_none, saving_plain, asks_for)

@@ -14,12 +14,12 @@ use Rattle.nesthv_top.specs.Reads.{asks_of}
 use Rattle.nesthv_top.specs.Written.{IsLinePut}
 use Rattle.gdb_top.specs.Debugging.{TalksAbout}
 
-abbrev pub usage_line : List ℕ
-usage_line = codes "nesthv-gdb: usage: CONFIG GUEST\n"
+abbrev pub debugger_usage : List ℕ
+debugger_usage = codes "nesthv-gdb: usage: CONFIG GUEST\n"
 
 -- the line that tells of an end: that of `nesthv`, but for the usage
 abbrev pub SaysOfLine : {Z : Type 0} → sinks.Ghosts Z → Ended → Z → Z → Type 0
-SaysOfLine E NoCommand old new = IsLinePut E old new usage_line
+SaysOfLine E NoCommand old new = IsLinePut E old new debugger_usage
 SaysOfLine E other old new = SaysOfErr E other old new
 
 -- the end by the reads of files: read fault 0 is one of the connection, and comes after all of these

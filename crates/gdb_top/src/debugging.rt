@@ -5,13 +5,13 @@ ghost use Rattle.std.specs.List.{list_all};
 ghost use Rattle.command_line.specs.Commands.{is_plain, OnFiles};
 ghost use Rattle.command_line.specs.Seen.{file_command_seen};
 ghost use Rattle.outside.specs.Faults.{Rose};
-ghost use Rattle.nesthv_top.specs.Endings.{HasPlan, IfKnown, IsFor, IsOfCommand, IsRefusal, SaysOfReads};
+ghost use Rattle.nesthv_top.specs.Endings.{HasPlan, IfKnown, IsEndFor, IsOfCommand, IsRefusal, SaysOfReads};
 ghost use Rattle.nesthv_top.specs.Lines.{memory_line};
 ghost use Rattle.nesthv_top.specs.Plans.{plan_of};
 ghost use Rattle.nesthv_top.specs.Statuses.{IsNoCommand, IsStatusOf};
 ghost use Rattle.nesthv_top.specs.Written.{IsLinePut};
 ghost use Rattle.gdb_top.specs.Debugging.{are_plain, debug_command, saving_words, IsSave, TalksAbout};
-ghost use Rattle.gdb_top.specs.Endings.{files_end, usage_line, SaysOfCauses, SaysOfLine, SaysOfTalk};
+ghost use Rattle.gdb_top.specs.Endings.{files_end, debugger_usage, SaysOfCauses, SaysOfLine, SaysOfTalk};
 
 use crate::guests::talk_about;
 use command_line::{FileRequest, Request, request_of};
@@ -56,7 +56,7 @@ pub fn debug<S: Store, C: Connection, E: Sink>(
 
     // What it leaves, by the end that the status stands for.
     ensures ended { IfOk words (λ words. IsStatusOf result (λ ended.
-        IsFor ended (saving_words words.items)
+        IsEndFor ended (saving_words words.items)
         × SaysOfReads S.Store (debug_command words.items) (files_end ended) store.old store.new
         × SaysOfCauses S.Store C.Connection ended store.old store.new connection.old connection.new
         × SaysOfTalk C.Connection (S.files store.old) (debug_command words.items) description.now ended
@@ -103,7 +103,7 @@ fn debug_words<S: Store, C: Connection, E: Sink>(
         → ¬ Rose (C.write_faults connection.old) (C.write_faults connection.new)
         → (result ≡ 0) ⊎ (result ≡ 5)) }
     ensures ended { IsStatusOf result (λ ended.
-        IsFor ended (saving_words words.items)
+        IsEndFor ended (saving_words words.items)
         × SaysOfReads S.Store (debug_command words.items) (files_end ended) store.old store.new
         × SaysOfCauses S.Store C.Connection ended store.old store.new connection.old connection.new
         × SaysOfTalk C.Connection (S.files store.old) (debug_command words.items) description.now ended
@@ -127,7 +127,7 @@ fn say<E: Sink>(ended: Ended, err: &mut E)
 
 // Puts the line of usage; a fault of this sink changes nothing.
 fn put_usage<E: Sink>(err: &mut E)
-    ensures { IsLinePut E.Sink err.old err.new usage_line }
+    ensures { IsLinePut E.Sink err.old err.new debugger_usage }
 {
     let _ = err.put(b"nesthv-gdb: usage: CONFIG GUEST\n");
 }
@@ -179,7 +179,7 @@ fn obey<S: Store, C: Connection>(
     store: &mut S,
     connection: &mut C,
 ) -> Ended
-    ensures words { IsFor result (saving_words words.items) }
+    ensures words { IsEndFor result (saving_words words.items) }
     ensures reads { SaysOfReads S.Store (debug_command words.items) (files_end result)
         store.old store.new }
     ensures causes { SaysOfCauses S.Store C.Connection result store.old store.new

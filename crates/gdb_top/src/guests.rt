@@ -2,7 +2,7 @@
 
 ghost use Rattle.std.specs.Prelude.{◌≡◌, ◌^◌, ◌<◌, ◌≤◌, [], length, slice_index_or, IsErrOf};
 ghost use Rattle.std.specs.List.{All};
-ghost use Rattle.gdb_stub.specs.Talks.{at_begin, end_of, HasTalked};
+ghost use Rattle.gdb_stub.specs.Talks.{at_begin, early_end, HasTalked};
 ghost use Rattle.guest_turns.specs.TurnLists.{own_steps};
 ghost use Rattle.outside.specs.Faults.{Rose};
 ghost use Rattle.run_config.specs.Configurations.{IsTurnWithin};
@@ -45,7 +45,7 @@ pub fn talk_about<C: Connection>(
     requires job { IsJob job }
     requires guest { guest < length job.sources.items }
     ensures talked { HasTalked C.Connection (recording_for (plan_seen job) guest description.now)
-        at_begin [] (end_of result) connection.old connection.new }
+        at_begin [] (early_end result) connection.old connection.new }
     ensures read_cause { IsErrOf result TalkEnd.ReadFault
         → Rose (C.read_faults connection.old) (C.read_faults connection.new) }
     ensures read_count { C.read_faults connection.old ≤ C.read_faults connection.new }

@@ -43,7 +43,7 @@ use Rattle.guest_exit.proofs.ExitCases.{and_false, left_as, page_exit_is}
 use Rattle.guest_exit.proofs.Missed.{far_is}
 use Rattle.guest_exit.specs.HartSteps.{Follows, FollowsTry, IsAt, event_for, host_takes, root_for, KeepsHart}
 use Rattle.rv64_hart.specs.MachineMemory.{found_on, mmu_on, reading_of_memory, second_of_memory, wanted_next}
-use Rattle.rv64_hart.specs.Steps.{attempt_of, end_by, enters_vs, found_at_exit, found_by_attempt as hart_finds, hart_step, next_attempt, with_first}
+use Rattle.rv64_hart.specs.Steps.{attempt_of, end_by, enters_vs, found_at_exit, found_by_attempt as hart_finds, hart_step, next_attempt, caching_found}
 use Rattle.guest_exit.proofs.Agreement.{core_stands, wanted_alike}
 use Rattle.guest_exit.proofs.Interrupts.{IsDue, due_alike}
 use Rattle.guest_exit.proofs.Delegation.{never_20, never_21, never_23}
@@ -431,8 +431,8 @@ outcome_follows : (part : Layout) (pool : Pooled) (m : Machine) (memory : List �
     → lone ≡ core (mmu_of m) m.platform.virt → hart ≡ core (mmu_of m) (hart_state_of (root_for part pool m.platform.virt) m.platform.virt)
     → Stands (root_for part pool m.platform.virt) m.platform.virt lone hart → LeavesWithin (in_ram part.blocks) hart
     → FollowsTry part (root_for part pool m.platform.virt) m found (apply_outcome (device_of m) (having_found found m) lone) (missing_entry_by m lone) memory
-    (end_by (with_first (loaded_in part (root_for part pool m.platform.virt) m.platform.virt) found) memory
-    (attempt_of (with_first (loaded_in part (root_for part pool m.platform.virt) m.platform.virt) found) memory (outcome_renamed (memory_place part.blocks) hart)))
+    (end_by (caching_found (loaded_in part (root_for part pool m.platform.virt) m.platform.virt) found) memory
+    (attempt_of (caching_found (loaded_in part (root_for part pool m.platform.virt) m.platform.virt) found) memory (outcome_renamed (memory_place part.blocks) hart)))
 outcome_follows part pool m memory found lone (Done hart stored event) at lone_is hart_is (e, keeps) (stores, reserves) =
     let v = m.platform.virt in
     let lie = lie_of part memory at.held in
@@ -553,7 +553,7 @@ found_on_hart part pool m memory at =
 try_follows : (part : Layout) (pool : Pooled) (m : Machine) (memory : List ℕ) (lone hart : Option ℕ) → due m.platform.virt.csrs m.platform.virt.mode ≡ lone
     → IsDue lone (is_virtual m.platform.virt.mode) m.platform.virt.csrs.hideleg hart → IsAt part pool m memory
     → FollowsTry part (root_for part pool m.platform.virt) m (found_with_code (stages_of m) m lone) (tried_with (stages_of m) m lone) (missing_entry m) memory
-    (end_by (with_first (loaded_in part (root_for part pool m.platform.virt) m.platform.virt)
+    (end_by (caching_found (loaded_in part (root_for part pool m.platform.virt) m.platform.virt)
     (hart_finds (loaded_in part (root_for part pool m.platform.virt) m.platform.virt) memory hart)) memory
     (next_attempt (loaded_in part (root_for part pool m.platform.virt) m.platform.virt) memory hart))
 try_follows part pool m memory None hart none e at =

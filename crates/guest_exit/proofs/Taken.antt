@@ -35,7 +35,7 @@ use Rattle.world_switch.proofs.Undone.{back_nested, back_own, exception_taken, i
 use Rattle.guest_exit.specs.ExitCases as case
 use Rattle.guest_exit.specs.ExitCases.{IsLeft, exit_of, having_found, is_guest_page_code, other_exit}
 use Rattle.guest_exit.specs.HartSteps.{ExitsAt, FollowsTry, IsAt, IsMade, KeepsHart, TimeExits, WaitsExit, step_for}
-use Rattle.rv64_hart.specs.Steps.{HartEnd, end_by, found_by_attempt, next_attempt, trapped_to, with_first, with_virt}
+use Rattle.rv64_hart.specs.Steps.{HartEnd, end_by, found_by_attempt, next_attempt, trapped_to, caching_found, with_virt}
 use Rattle.guest_exit.proofs.Decided.{ends_as, instruction_of, is_decided_in}
 use Rattle.guest_exit.proofs.ExitCases.{instruction_exit_is, left_as, other_exit_is}
 use Rattle.guest_exit.proofs.Interrupts.{IsDue}
@@ -160,7 +160,7 @@ none_filled first = refl
 
 pub interrupt_follows : (part : Layout) {pool : Pooled} (root : GuestRoot) (m : Machine) (memory : List ℕ) (found : List FirstEntry) (lacks : Option Entry) (code : ℕ) (hart : Option ℕ) (virtual : Bool) → is_virtual m.platform.virt.mode ≡ virtual
     → IsDue (Some code) virtual m.platform.virt.csrs.hideleg hart → IsAt part pool m memory → lacks ≡ None
-    → FollowsTry part root m found (trapped m (interrupt_of code)) lacks memory (end_by (with_first (loaded_in part root m.platform.virt) (found_by_attempt (loaded_in part root m.platform.virt) memory hart)) memory
+    → FollowsTry part root m found (trapped m (interrupt_of code)) lacks memory (end_by (caching_found (loaded_in part root m.platform.virt) (found_by_attempt (loaded_in part root m.platform.virt) memory hart)) memory
     (next_attempt (loaded_in part root m.platform.virt) memory hart))
 interrupt_follows part root m memory found lacks code hart false own (e, good) at ready = rw (e, none_filled m.platform.virt.first) (own_interrupt part root m memory found lacks code own good at ready)
 interrupt_follows part root m memory found lacks code hart true on (e, good) at ready = rw (e, none_filled m.platform.virt.first) (nested_interrupt part root m memory found lacks code on good at ready)

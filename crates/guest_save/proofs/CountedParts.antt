@@ -13,31 +13,31 @@ use Rattle.arch_defs.specs.Spaces.{Space}
 use Rattle.guest_save.proofs.Bits.{flags_again, flags_small}
 use Rattle.guest_save.proofs.Eights.{after_items, after_number, items_again, number_again, number_length, numbers_length, so_many_again}
 use Rattle.guest_save.specs.Forms.{entry_form, flags_of, input_form, space_form}
-use Rattle.guest_save.specs.Numbers.{number, number_in}
-use Rattle.guest_save.specs.Reading.{after_space, after_spaces, count_in, entries_in, entry_count, entry_in, entry_of, input_of, inputs_in, space_in, spaces_in}
+use Rattle.guest_save.specs.Numbers.{number_bytes, number_in}
+use Rattle.guest_save.specs.Reading.{after_space, after_spaces, count_in, entries_in, entry_count, entry_in, entry_from_numbers, input_of, leading_inputs, space_in, leading_spaces}
 
 -- a count within its limit
-pub count_again : (most n : ℕ) (rest : List ℕ) → n ≤ most → n < 2 ^ 64 → count_in most (number n ++ rest) ≡ n
+pub count_again : (most n : ℕ) (rest : List ℕ) → n ≤ most → n < 2 ^ 64 → count_in most (number_bytes n ++ rest) ≡ n
 count_again most n rest few fits = rw (number_again n rest fits, le-leb n most few) refl
 
 -- the bytes after two numbers
-after_both : (a b : ℕ) (rest : List ℕ) → drop 16 (number a ++ (number b ++ rest)) ≡ rest
-unfolding number
+after_both : (a b : ℕ) (rest : List ℕ) → drop 16 (number_bytes a ++ (number_bytes b ++ rest)) ≡ rest
+unfolding number_bytes
 after_both a b rest = refl
 
 -- an input, and inputs
 input_length : (input : ℕ × ℕ) → length (input_form input) ≡ 9
-input_length input = omega (arith, length-append (number input.0) (input.1 ∷ []), number_length input.0)
+input_length input = omega (arith, length-append (number_bytes input.0) (input.1 ∷ []), number_length input.0)
 
 input_again : (input : ℕ × ℕ) (rest : List ℕ) → input.0 < 2 ^ 64 → input_of (input_form input ++ rest) ≡ input
 input_again input rest early =
-    let spread = append_assoc (number input.0) (input.1 ∷ []) rest in
+    let spread = append_assoc (number_bytes input.0) (input.1 ∷ []) rest in
     let moment : number_in (input_form input ++ rest) ≡ input.0 = rw spread (number_again input.0 (input.1 ∷ rest) early) in
     let byte : slice_index (drop 8 (input_form input ++ rest)) 0 ≡ input.1 = rw (spread, after_number input.0 (input.1 ∷ rest)) refl in
     λ i. (moment i, byte i)
 
 pub inputs_again : (inputs : List (ℕ × ℕ)) (rest : List ℕ) → All (λ input. input.0 < 2 ^ 64) inputs
-    → inputs_in (length inputs) (flat_map input_form inputs ++ rest) ≡ inputs
+    → leading_inputs (length inputs) (flat_map input_form inputs ++ rest) ≡ inputs
 inputs_again inputs rest early = items_again input_form input_of 9 (λ input. input.0 < 2 ^ 64) input_length input_again inputs rest early
 
 pub after_inputs : (inputs : List (ℕ × ℕ)) (rest : List ℕ) → drop (9 * length inputs) (flat_map input_form inputs ++ rest) ≡ rest
@@ -58,14 +58,14 @@ entry_fits e fits =
     (All-cons (λ n. n < 2 ^ 64) e.frame (flags_of e ∷ []) fits.frame
     (All-cons (λ n. n < 2 ^ 64) (flags_of e) [] (flags_small e fits.level) (All-nil (λ n. n < 2 ^ 64))))
 
-entry_of_numbers : (e : Entry) → FitsForm e → entry_of (e.page ∷ e.frame ∷ flags_of e ∷ []) ≡ e
+entry_of_numbers : (e : Entry) → FitsForm e → entry_from_numbers (e.page ∷ e.frame ∷ flags_of e ∷ []) ≡ e
 entry_of_numbers e fits = let f = flags_again e fits.level in
     let r = f.r in let w = f.w in let x = f.x in let level = f.level in
     λ i. record { page = e.page; frame = e.frame; r = r i; w = w i; x = x i; level = level i }
 
 entry_again : (e : Entry) (rest : List ℕ) → FitsForm e → entry_in (entry_form e ++ rest) ≡ e
 entry_again e rest fits =
-    ap entry_of (so_many_again 3 (e.page ∷ e.frame ∷ flags_of e ∷ []) rest refl (entry_fits e fits)) ∙ entry_of_numbers e fits
+    ap entry_from_numbers (so_many_again 3 (e.page ∷ e.frame ∷ flags_of e ∷ []) rest refl (entry_fits e fits)) ∙ entry_of_numbers e fits
 
 entries_again : (entries : List Entry) (rest : List ℕ) → All FitsForm entries
     → entries_in (length entries) (flat_map entry_form entries ++ rest) ≡ entries
@@ -87,15 +87,15 @@ key_small (Table Sv39x4 vmid ppn) = omega arith
 key_small (Table Sv48x4 vmid ppn) = omega arith
 
 spread_space : (s : Space) (rest : List ℕ)
-    → space_form s ++ rest ≡ number (hgatp_bits s.key) ++ (number (length s.entries) ++ (flat_map entry_form s.entries ++ rest))
+    → space_form s ++ rest ≡ number_bytes (hgatp_bits s.key) ++ (number_bytes (length s.entries) ++ (flat_map entry_form s.entries ++ rest))
 spread_space s rest =
-    append_assoc (number (hgatp_bits s.key)) (number (length s.entries) ++ flat_map entry_form s.entries) rest
-    ∙ ap (λ tail. number (hgatp_bits s.key) ++ tail) (append_assoc (number (length s.entries)) (flat_map entry_form s.entries) rest)
+    append_assoc (number_bytes (hgatp_bits s.key)) (number_bytes (length s.entries) ++ flat_map entry_form s.entries) rest
+    ∙ ap (λ tail. number_bytes (hgatp_bits s.key) ++ tail) (append_assoc (number_bytes (length s.entries)) (flat_map entry_form s.entries) rest)
 
 pub entry_count_again : (s : Space) (rest : List ℕ) → SpaceFits s → entry_count (space_form s ++ rest) ≡ length s.entries
 entry_count_again s rest fits =
     let tail = flat_map entry_form s.entries ++ rest in
-    rw (spread_space s rest, after_number (hgatp_bits s.key) (number (length s.entries) ++ tail))
+    rw (spread_space s rest, after_number (hgatp_bits s.key) (number_bytes (length s.entries) ++ tail))
     (count_again 256 (length s.entries) tail fits.few (omega (arith, fits.few)))
 
 after_counts : (s : Space) (rest : List ℕ) → drop 16 (space_form s ++ rest) ≡ flat_map entry_form s.entries ++ rest
@@ -105,7 +105,7 @@ after_counts s rest =
 space_again : (s : Space) (rest : List ℕ) → SpaceFits s → space_in (space_form s ++ rest) ≡ s
 space_again s rest fits =
     let key : guest_root_of (number_in (space_form s ++ rest)) ≡ s.key =
-    rw (spread_space s rest, number_again (hgatp_bits s.key) (number (length s.entries) ++ (flat_map entry_form s.entries ++ rest)) (key_small s.key)) fits.key in
+    rw (spread_space s rest, number_again (hgatp_bits s.key) (number_bytes (length s.entries) ++ (flat_map entry_form s.entries ++ rest)) (key_small s.key)) fits.key in
     let entries : entries_in (entry_count (space_form s ++ rest)) (drop 16 (space_form s ++ rest)) ≡ s.entries =
     rw (entry_count_again s rest fits, after_counts s rest) (entries_again s.entries rest fits.entries) in
     λ i. record { key = key i; entries = entries i }
@@ -115,13 +115,13 @@ after_space_is s rest fits =
     rw (entry_count_again s rest fits, after_counts s rest) (after_entries s.entries rest)
 
 pub spaces_again : (spaces : List Space) (rest : List ℕ) → All SpaceFits spaces
-    → spaces_in (length spaces) (flat_map space_form spaces ++ rest) ≡ spaces
-unfolding spaces_in
+    → leading_spaces (length spaces) (flat_map space_form spaces ++ rest) ≡ spaces
+unfolding leading_spaces
 spaces_again [] rest fit = refl
 spaces_again (s ∷ spaces) rest fit =
     let first = space_again s (flat_map space_form spaces ++ rest) (All-head SpaceFits s spaces fit) in
     let next = after_space_is s (flat_map space_form spaces ++ rest) (All-head SpaceFits s spaces fit) in
-    let others = ap (spaces_in (length spaces)) next ∙ spaces_again spaces rest (All-tail SpaceFits s spaces fit) in
+    let others = ap (leading_spaces (length spaces)) next ∙ spaces_again spaces rest (All-tail SpaceFits s spaces fit) in
     rw (append_assoc (space_form s) (flat_map space_form spaces) rest) (λ i. first i ∷ others i)
 
 pub after_spaces_again : (spaces : List Space) (rest : List ℕ) → All SpaceFits spaces

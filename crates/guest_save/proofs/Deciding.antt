@@ -23,7 +23,7 @@ use Rattle.guest_save.proofs.ReadMachines.{read_is}
 use Rattle.guest_save.proofs.RoundTrip.{round_trip}
 use Rattle.guest_save.proofs.Testing.{savable_from, savable_sound}
 use Rattle.guest_save.specs.declared.headers.Header.{Header}
-use Rattle.guest_save.specs.Deciding.{all_pairs, entry_fits, first_fits, has_first, has_other_key, has_other_page, has_sizes, inputs_rise, is_apart, is_front, is_in_ram, is_in_reach, is_reserved, is_savable, is_saved, is_within, space_fits}
+use Rattle.guest_save.specs.Deciding.{all_pairs, entry_fits, first_fits, has_first, has_other_key, has_other_page, has_sizes, inputs_rise, is_apart, is_front, is_in_ram, is_in_reach, is_reservation_within, is_savable, is_saved, is_within, space_fits}
 use Rattle.guest_save.specs.declared.versions.Version.{Version}
 use Rattle.guest_save.specs.declared.versions.Version.TheVariants.{Third}
 use Rattle.guest_save.specs.Forms.{form_of}
@@ -31,7 +31,7 @@ use Rattle.guest_save.specs.Headers.{header_numbers, header_of}
 use Rattle.guest_save.specs.Laws.{FormIsSaved, SavedExactly, UnsavedIsBad}
 use Rattle.guest_save.specs.Reading.{machine_by}
 use Rattle.guest_save.specs.Savable.{Fits, HasOtherKey, HasSizes, IsInReach, IsSavable, IsSavableEntry, pages_of, top_level_of}
-use Rattle.guest_save.specs.Saves.{SavedMachine, saved_form, saved_in}
+use Rattle.guest_save.specs.Saves.{SavedMachine, saved_form, saved_machine_in}
 use Rattle.guest_save.specs.Tests.{IsRead, IsReserved, IsSoundSpace}
 use Rattle.guest_save.specs.Versions.{version_in}
 use Rattle.machine_defs.specs.Machine.{Machine}
@@ -106,7 +106,7 @@ order_decided xs =
 inputs_decided : (xs : List (ℕ × ℕ)) → Decides (inputs_rise xs) (All (λ input. input.0 < 2 ^ 62) xs × IsNonDecreasingBy (λ input. input.0) xs)
 inputs_decided xs = both (all_decided _ (λ (input : ℕ × ℕ). input.0 < 2 ^ 62) (λ (input : ℕ × ℕ). Decides-ltb input.0 (2 ^ 62)) xs) (order_decided xs)
 
-reserved_decided : (reservation : Option (ℕ × ℕ)) (size : ℕ) → Decides (is_reserved reservation size) (IsReserved reservation size)
+reserved_decided : (reservation : Option (ℕ × ℕ)) (size : ℕ) → Decides (is_reservation_within reservation size) (IsReserved reservation size)
 reserved_decided None size = (λ passes. record { aligned = tt; inside = tt }, λ is. refl)
 reserved_decided (Some (place, width)) size =
     let widths = Decides-or (width == 4) (width == 8) (Decides-eqb width 4) (Decides-eqb width 8) in
@@ -199,7 +199,7 @@ savable_decided m read = let p = m.platform in let h = header_of m in let size =
 pub saved_exactly : SavedExactly
 unfolding is_saved
 saved_exactly bytes =
-    both (savable_decided (saved_in bytes).machine (read_is (version_in bytes) bytes)) (bytes_eq-Decides (saved_form (saved_in bytes)) bytes)
+    both (savable_decided (saved_machine_in bytes).machine (read_is (version_in bytes) bytes)) (bytes_eq-Decides (saved_form (saved_machine_in bytes)) bytes)
 
 pub form_is_saved : FormIsSaved
 form_is_saved version m savable tells = let read = round_trip version m savable tells in
@@ -211,12 +211,12 @@ unsaved_is_bad bytes fails version m savable tells is =
 
 -- what was read in the version that bytes tell
 pub read_as : (bytes : List ℕ) (version : Version) (m : Machine) → version ≡ version_in bytes → m ≡ machine_by version bytes
-    → record { version = version; machine = m } ≡ saved_in bytes
+    → record { version = version; machine = m } ≡ saved_machine_in bytes
 read_as bytes version m told read =
     let machine : m ≡ machine_by (version_in bytes) bytes = read ∙ ap (λ (v : Version). machine_by v bytes) told in
     λ i. record { version = told i; machine = machine i }
 
 -- another test that tells it gives the same
-pub same_test : (bytes : List ℕ) (s : SavedMachine) (b : Bool) → s ≡ saved_in bytes → Decides b (IsSavable s.machine × (saved_form s ≡ bytes)) → is_saved bytes ≡ b
+pub same_test : (bytes : List ℕ) (s : SavedMachine) (b : Bool) → s ≡ saved_machine_in bytes → Decides b (IsSavable s.machine × (saved_form s ≡ bytes)) → is_saved bytes ≡ b
 same_test bytes s b read tells =
     same_from_decides (is_saved bytes) b (saved_exactly bytes) (subst (λ (x : SavedMachine). Decides b (IsSavable x.machine × (saved_form x ≡ bytes))) read tells)

@@ -7,25 +7,25 @@ use Rattle.std.proofs.lemmas.Bool.{le-leb}
 use Rattle.std.proofs.lemmas.List.{drop-drop, drop_at, take_at}
 use Rattle.std.proofs.lemmas.List.Elements.{All-head, All-tail}
 use Rattle.std.proofs.lemmas.Nat.{from_le_bytes-to_le_bytes_8}
-use Rattle.guest_save.specs.Numbers.{items_in, number, number_in, numbers, numbers_in}
+use Rattle.guest_save.specs.Numbers.{items_in, number_bytes, number_in, numbers, leading_numbers}
 
-pub number_length : (n : ℕ) → length (number n) ≡ 8
-unfolding number
+pub number_length : (n : ℕ) → length (number_bytes n) ≡ 8
+unfolding number_bytes
 number_length n = refl
 
-written_once : (n : ℕ) → n < 2 ^ 64 → from_le_bytes w64 (number n) ≡ n
-unfolding number
+written_once : (n : ℕ) → n < 2 ^ 64 → from_le_bytes w64 (number_bytes n) ≡ n
+unfolding number_bytes
 written_once n fits = from_le_bytes-to_le_bytes_8 n fits
 
 -- a number that has 64 bits, and what follows it
-pub number_again : (n : ℕ) (rest : List ℕ) → n < 2 ^ 64 → number_in (number n ++ rest) ≡ n
+pub number_again : (n : ℕ) (rest : List ℕ) → n < 2 ^ 64 → number_in (number_bytes n ++ rest) ≡ n
 unfolding number_in
 number_again n rest fits =
-    let enough : nat_le 8 (length (number n ++ rest)) ≡ true = le-leb 8 (length (number n ++ rest)) (omega (arith, length-append (number n) rest, number_length n)) in
-    rw (enough, take_at (number n) rest 8 (number_length n)) (written_once n fits)
+    let enough : nat_le 8 (length (number_bytes n ++ rest)) ≡ true = le-leb 8 (length (number_bytes n ++ rest)) (omega (arith, length-append (number_bytes n) rest, number_length n)) in
+    rw (enough, take_at (number_bytes n) rest 8 (number_length n)) (written_once n fits)
 
-pub after_number : (n : ℕ) (rest : List ℕ) → drop 8 (number n ++ rest) ≡ rest
-after_number n rest = drop_at (number n) rest 8 (number_length n)
+pub after_number : (n : ℕ) (rest : List ℕ) → drop 8 (number_bytes n ++ rest) ≡ rest
+after_number n rest = drop_at (number_bytes n) rest 8 (number_length n)
 
 -- items of one size
 module _ {A : Type 0} (form : A → List ℕ) (item : List ℕ → A) (size : ℕ) where
@@ -72,7 +72,7 @@ module _ {A : Type 0} (item : List ℕ → A) (size : ℕ) where
   items_length (suc count) bytes = ap suc (items_length count (drop size bytes))
 
 pub numbers_length : (ns : List ℕ) → length (numbers ns) ≡ 8 * length ns
-numbers_length ns = items_form_length number number_in 8 number_length ns
+numbers_length ns = items_form_length number_bytes number_in 8 number_length ns
 
-pub so_many_again : (k : ℕ) (ns rest : List ℕ) → length ns ≡ k → All (λ n. n < 2 ^ 64) ns → numbers_in k (numbers ns ++ rest) ≡ ns
-so_many_again k ns rest many fit = rw (← many) (items_again number number_in 8 (λ n. n < 2 ^ 64) number_length number_again ns rest fit)
+pub so_many_again : (k : ℕ) (ns rest : List ℕ) → length ns ≡ k → All (λ n. n < 2 ^ 64) ns → leading_numbers k (numbers ns ++ rest) ≡ ns
+so_many_again k ns rest many fit = rw (← many) (items_again number_bytes number_in 8 (λ n. n < 2 ^ 64) number_length number_again ns rest fit)

@@ -9,8 +9,8 @@ use Rattle.arch_defs.specs.CsrAccess.{shown, written}
 use Rattle.arch_defs.specs.Registers.{csrs_at_reset}
 use Rattle.arch_defs.specs.Spaces.{Space}
 use Rattle.guest_save.proofs.Eights.{after_more, items_more}
-use Rattle.guest_save.specs.Numbers.{items_in, number_in, numbers_in}
-use Rattle.guest_save.specs.Reading.{after_space, after_spaces, space_in, spaces_in}
+use Rattle.guest_save.specs.Numbers.{items_in, number_in, leading_numbers}
+use Rattle.guest_save.specs.Reading.{after_space, after_spaces, space_in, leading_spaces}
 use Rattle.guest_save.specs.Registers.{after_sip, all_written, before_sip, csrs_in, with_ssip}
 
 -- no item yet, one more, and what is left behind it
@@ -29,8 +29,8 @@ module _ {A : Type 0} (item : List ℕ → A) (size : ℕ) where
   left_then count bytes rest after place is = is ∙ ap (λ (xs : List ℕ). drop size xs) place ∙ after_more item size count bytes
 
 -- and of spaces
-pub no_spaces : (bytes : List ℕ) → [] ≡ spaces_in 0 bytes
-unfolding spaces_in
+pub no_spaces : (bytes : List ℕ) → [] ≡ leading_spaces 0 bytes
+unfolding leading_spaces
 no_spaces bytes = refl
 
 pub none_after : (bytes : List ℕ) → bytes ≡ after_spaces 0 bytes
@@ -47,17 +47,17 @@ after_one count bytes rest after place is =
     let next : count + 1 ≡ suc count = omega arith in
     is ∙ ap after_space place ∙ after_next count bytes ∙ ap (λ (n : ℕ). after_spaces n bytes) (sym next)
 
-space_next : (count : ℕ) (bytes : List ℕ) → spaces_in (suc count) bytes ≡ spaces_in count bytes ++ space_in (after_spaces count bytes) ∷ []
-unfolding spaces_in after_spaces
+space_next : (count : ℕ) (bytes : List ℕ) → leading_spaces (suc count) bytes ≡ leading_spaces count bytes ++ space_in (after_spaces count bytes) ∷ []
+unfolding leading_spaces after_spaces
 space_next zero bytes = refl
 space_next (suc count) bytes = ap (λ (xs : List Space). space_in bytes ∷ xs) (space_next count (after_space bytes))
 
-pub one_space : (before new : List Space) (count : ℕ) (bytes rest : List ℕ) (s : Space) → before ≡ spaces_in count bytes → rest ≡ after_spaces count bytes
-    → s ≡ space_in rest → new ≡ before ++ s ∷ [] → new ≡ spaces_in (count + 1) bytes
+pub one_space : (before new : List Space) (count : ℕ) (bytes rest : List ℕ) (s : Space) → before ≡ leading_spaces count bytes → rest ≡ after_spaces count bytes
+    → s ≡ space_in rest → new ≡ before ++ s ∷ [] → new ≡ leading_spaces (count + 1) bytes
 one_space before new count bytes rest s is place read pushed =
     let next : count + 1 ≡ suc count = omega arith in
-    pushed ∙ ap (λ (xs : List Space). xs ++ s ∷ []) is ∙ ap (λ (x : Space). spaces_in count bytes ++ x ∷ []) (read ∙ ap space_in place)
-    ∙ sym (space_next count bytes) ∙ ap (λ (n : ℕ). spaces_in n bytes) (sym next)
+    pushed ∙ ap (λ (xs : List Space). xs ++ s ∷ []) is ∙ ap (λ (x : Space). leading_spaces count bytes ++ x ∷ []) (read ∙ ap space_in place)
+    ∙ sym (space_next count bytes) ∙ ap (λ (n : ℕ). leading_spaces n bytes) (sym next)
 
 -- the registers of 29 numbers
 pub csrs_of_numbers : (ns tail : List ℕ) (reset first last : Csrs) (software : Bool) → reset ≡ csrs_at_reset → first ≡ all_written reset before_sip ns
@@ -71,10 +71,10 @@ csrs_of_numbers ns tail reset first last software is_reset is_first is_software 
 
 -- one more number was read
 pub one_more_number : (into : List ℕ) (i v : ℕ) (rest bytes : List ℕ) → i < length into → rest ≡ drop (8 * i) bytes → v ≡ number_in rest
-    → take i into ≡ numbers_in i bytes → take (i + 1) (set into i v) ≡ numbers_in (i + 1) bytes
+    → take i into ≡ leading_numbers i bytes → take (i + 1) (set into i v) ≡ leading_numbers (i + 1) bytes
 one_more_number into i v rest bytes within place is before =
     take_more_set into i v within ∙ ap (λ (xs : List ℕ). xs ++ v ∷ []) before
-    ∙ ap (λ (x : ℕ). numbers_in i bytes ++ x ∷ []) (is ∙ ap number_in place) ∙ sym (items_more number_in 8 i bytes)
+    ∙ ap (λ (x : ℕ). leading_numbers i bytes ++ x ∷ []) (is ∙ ap number_in place) ∙ sym (items_more number_in 8 i bytes)
 
 -- one more register was shown
 pub one_more_shown : (csrs : Csrs) (registers : List Register) (into : List ℕ) (i v : ℕ) (d : Register) → i < length registers → i < length into

@@ -16,8 +16,8 @@ use Rattle.guest_save.proofs.StoredRegisters.{read_is_stored}
 use Rattle.guest_save.specs.declared.versions.Version.{Version}
 use Rattle.guest_save.specs.declared.versions.Version.TheVariants.{First, Second, Third}
 use Rattle.guest_save.specs.Headers.{header_in}
-use Rattle.guest_save.specs.Numbers.{items_in, number_in, numbers_in}
-use Rattle.guest_save.specs.Reading.{after_first, after_space, after_spaces, capped, count_in, device_in, first_entries_in, first_entry_in, first_in, from_console, from_inputs, from_spaces, input_of, inputs_in, machine_by, machine_with, space_in, spaces_in, tag_in}
+use Rattle.guest_save.specs.Numbers.{items_in, number_in, leading_numbers}
+use Rattle.guest_save.specs.Reading.{after_first, after_space, after_spaces, capped, count_in, device_in, first_entries_in, first_entry_in, first_in, from_console, from_inputs, from_spaces, input_of, leading_inputs, machine_by, machine_with, space_in, leading_spaces, tag_in}
 use Rattle.guest_save.specs.Registers.{csrs_in}
 use Rattle.guest_save.specs.Tests.{IsRead}
 use Rattle.guest_save.specs.Versions.{header_end, later_begin}
@@ -33,11 +33,11 @@ lines_stored : (ns : List ℕ) (time : ℕ) (timer external : Bool) → stored_f
 lines_stored ns time timer external = let is = read_is_stored ns in let lines = with_lines (csrs_in ns) time timer external in
     λ i. record (is i) { sip = lines.sip; time = time }
 
-keys_stored : (count : ℕ) (bytes : List ℕ) → All (λ s. guest_root_of (hgatp_bits s.key) ≡ s.key) (spaces_in count bytes)
-unfolding spaces_in
+keys_stored : (count : ℕ) (bytes : List ℕ) → All (λ s. guest_root_of (hgatp_bits s.key) ≡ s.key) (leading_spaces count bytes)
+unfolding leading_spaces
 keys_stored zero bytes = All-nil (λ s. guest_root_of (hgatp_bits s.key) ≡ s.key)
 keys_stored (suc count) bytes =
-    All-cons (λ s. guest_root_of (hgatp_bits s.key) ≡ s.key) (space_in bytes) (spaces_in count (after_space bytes))
+    All-cons (λ s. guest_root_of (hgatp_bits s.key) ≡ s.key) (space_in bytes) (leading_spaces count (after_space bytes))
     (hgatp_stored (number_in bytes)) (keys_stored count (after_space bytes))
 
 tag_storable : (v hgatp : ℕ) → IsStorableTag (tag_in v hgatp)
@@ -47,7 +47,7 @@ entries_storable : (count : ℕ) (bytes : List ℕ) → AreStorable (first_entri
 unfolding items_in
 entries_storable zero bytes = All-nil IsStorableFirst
 entries_storable (suc count) bytes =
-    let ns = numbers_in 6 bytes in
+    let ns = leading_numbers 6 bytes in
     All-cons IsStorableFirst (first_entry_in bytes) (first_entries_in count (drop 48 bytes))
     (record { tag = tag_storable (slice_index ns 0) (slice_index ns 1); atp = atp_stored Bare (slice_index ns 2) atp_bare })
     (entries_storable count (drop 48 bytes))
@@ -59,7 +59,7 @@ first_storable Third bytes = entries_storable (count_in 32 bytes) (drop 8 bytes)
 
 parts_read : (sizes : List ℕ) (device : Bool) (ns console : List ℕ) (count : ℕ) (bytes : List ℕ) (spaces : ℕ) (rest : List ℕ) (first : List FirstEntry) (ram : List ℕ)
     → count ≤ 65536 → AreStorable first
-    → IsRead (machine_with (header_in sizes device ns) console (inputs_in count bytes) (spaces_in spaces rest) first ram)
+    → IsRead (machine_with (header_in sizes device ns) console (leading_inputs count bytes) (leading_spaces spaces rest) first ram)
 unfolding header_in
 parts_read sizes device ns console count bytes spaces rest first ram few storable = record {
   x0 = refl;
@@ -80,7 +80,7 @@ read_is version bytes =
     let third = drop (9 * inputs) (drop 8 second) in
     let spaces = count_in 8 third in
     let last = after_spaces spaces (drop 8 third) in
-    parts_read (numbers_in 4 (drop 8 bytes)) (device_in version bytes) (numbers_in 68 (drop (later_begin version) bytes)) (take console (drop 8 first)) inputs (drop 8 second) spaces (drop 8 third)
+    parts_read (leading_numbers 4 (drop 8 bytes)) (device_in version bytes) (leading_numbers 68 (drop (later_begin version) bytes)) (take console (drop 8 first)) inputs (drop 8 second) spaces (drop 8 third)
     (first_in version last) (after_first version last) (capped_most 65536 (number_in second)) (first_storable version last)
 
 -- RAM is an end of the bytes

@@ -23,26 +23,26 @@ use Rattle.guest_save.specs.declared.headers.Header.{Header}
 use Rattle.guest_save.specs.declared.versions.Version.{Version}
 use Rattle.guest_save.specs.declared.versions.Version.TheVariants.{First, Second, Third}
 use Rattle.guest_save.specs.Forms.{console_form, first_entry_form, first_form, form_of, form_with, front_form, input_form, inputs_form, space_form, spaces_form}
-use Rattle.guest_save.specs.Headers.{device_numbers, header_in, header_numbers, header_of, later_numbers, mode_number, mode_of, numbered, progress_numbers, reservation_numbers, reservation_of, size_numbers, state_numbers, status_number, status_of}
+use Rattle.guest_save.specs.Headers.{device_numbers, header_in, header_numbers, header_of, later_numbers, mode_number, mode_by_number, numbered, progress_numbers, reservation_numbers, reservation_of, size_numbers, state_numbers, status_number, status_by_number}
 use Rattle.guest_save.specs.Laws.{BadExactly, FrontDecides, RoundTrip}
-use Rattle.guest_save.specs.Numbers.{number, number_in, numbers, numbers_in}
+use Rattle.guest_save.specs.Numbers.{number_bytes, number_in, numbers, leading_numbers}
 use Rattle.guest_save.specs.Reading.{from_console, from_inputs, from_spaces, device_in, machine_by, machine_with, platform_in}
 use Rattle.guest_save.specs.Registers.{csr_numbers, csrs_in}
 use Rattle.guest_save.specs.Savable.{Fits, IsInReach, IsSavable, IsSavableEntry, IsSavableSpace}
-use Rattle.guest_save.specs.Saves.{SavedMachine, saved_form, saved_in}
-use Rattle.guest_save.specs.Versions.{CanTell, header_end, later_begin, letters, version_in}
+use Rattle.guest_save.specs.Saves.{SavedMachine, saved_form, saved_machine_in}
+use Rattle.guest_save.specs.Versions.{CanTell, header_end, later_begin, version_letters, version_in}
 use Rattle.guest_specs.specs.declared.statuses.Status.{Status}
 use Rattle.guest_specs.specs.declared.statuses.Status.TheVariants.{Running, Waiting, Stopped}
 use Rattle.machine_defs.specs.Machine.{Machine, with_lines, with_pending_lines}
 use Rattle.machine_laws.specs.StorableStates.{ReservesAligned}
 
 -- the small numbers of a header
-status_again : (status : Status) → status_of (status_number status) ≡ status
+status_again : (status : Status) → status_by_number (status_number status) ≡ status
 status_again Running = refl
 status_again Waiting = refl
 status_again Stopped = refl
 
-mode_again : (mode : Mode) → mode_of (mode_number mode) ≡ mode
+mode_again : (mode : Mode) → mode_by_number (mode_number mode) ≡ mode
 mode_again HS = refl
 mode_again U = refl
 mode_again VS = refl
@@ -213,13 +213,13 @@ later_fit h fit =
 abbrev header_again : Machine → Header
 header_again m = header_in (size_numbers (header_of m)) m.device (later_numbers (header_of m))
 
-letters_length : (version : Version) → length (letters version) ≡ 8
+letters_length : (version : Version) → length (version_letters version) ≡ 8
 letters_length First = refl
 letters_length Second = refl
 letters_length Third = refl
 
-after_letters : (version : Version) (rest : List ℕ) → drop 8 (letters version ++ rest) ≡ rest
-after_letters version rest = drop_at (letters version) rest 8 (letters_length version)
+after_letters : (version : Version) (rest : List ℕ) → drop 8 (version_letters version ++ rest) ≡ rest
+after_letters version rest = drop_at (version_letters version) rest 8 (letters_length version)
 
 header_long : (version : Version) (h : Header) → length h.state.regs.x ≡ 32 → 8 + 8 * length (header_numbers version h) ≡ header_end version
 header_long First h size = omega (arith, later_length h size)
@@ -235,38 +235,38 @@ module _ (version : Version) (m : Machine) (rest : List ℕ) (savable : IsSavabl
   ns = header_numbers version head
 
   abbrev text : List ℕ
-  text = letters version ++ (numbers ns ++ rest)
+  text = version_letters version ++ (numbers ns ++ rest)
 
-  sizes_again : numbers_in 4 (drop 8 text) ≡ size_numbers head
+  sizes_again : leading_numbers 4 (drop 8 text) ≡ size_numbers head
   sizes_again =
       let more = device_numbers version head ++ later_numbers head in
       let parts : numbers ns ++ rest ≡ numbers (size_numbers head) ++ (numbers more ++ rest) =
-      ap (λ (xs : List ℕ). xs ++ rest) (flat_map-append number (size_numbers head) more) ∙ append_assoc (numbers (size_numbers head)) (numbers more) rest in
-      ap (numbers_in 4) (after_letters version (numbers ns ++ rest) ∙ parts)
+      ap (λ (xs : List ℕ). xs ++ rest) (flat_map-append number_bytes (size_numbers head) more) ∙ append_assoc (numbers (size_numbers head)) (numbers more) rest in
+      ap (leading_numbers 4) (after_letters version (numbers ns ++ rest) ∙ parts)
       ∙ so_many_again 4 (size_numbers head) (numbers more ++ rest) refl (sizes_fit head (device_numbers Third head ++ later_numbers head) savable.numbers)
 
   after_header : drop (header_end version) text ≡ rest
   after_header =
-      ap (drop (header_end version)) (sym (append_assoc (letters version) (numbers ns) rest))
-      ∙ drop_at (letters version ++ numbers ns) rest (header_end version)
-      (omega (arith, length-append (letters version) (numbers ns), letters_length version, numbers_length ns, header_long version head savable.registers))
+      ap (drop (header_end version)) (sym (append_assoc (version_letters version) (numbers ns) rest))
+      ∙ drop_at (version_letters version ++ numbers ns) rest (header_end version)
+      (omega (arith, length-append (version_letters version) (numbers ns), letters_length version, numbers_length ns, header_long version head savable.registers))
 
 -- the numbers behind the sizes and the device page
 later_again : (version : Version) (m : Machine) (rest : List ℕ) → IsSavable m
-    → numbers_in 68 (drop (later_begin version) (letters version ++ (numbers (header_numbers version (header_of m)) ++ rest))) ≡ later_numbers (header_of m)
+    → leading_numbers 68 (drop (later_begin version) (version_letters version ++ (numbers (header_numbers version (header_of m)) ++ rest))) ≡ later_numbers (header_of m)
 later_again version m rest savable =
     let h = header_of m in
     let front = size_numbers h ++ device_numbers version h in
     let later = later_numbers h in
     let ns : header_numbers version h ≡ front ++ later = sym (append_assoc (size_numbers h) (device_numbers version h) later) in
-    let parts : letters version ++ (numbers (header_numbers version h) ++ rest) ≡ (letters version ++ numbers front) ++ (numbers later ++ rest) =
-    ap (λ (xs : List ℕ). letters version ++ (numbers xs ++ rest)) ns
-    ∙ ap (λ (xs : List ℕ). letters version ++ (xs ++ rest)) (flat_map-append number front later)
-    ∙ ap (λ (xs : List ℕ). letters version ++ xs) (append_assoc (numbers front) (numbers later) rest)
-    ∙ sym (append_assoc (letters version) (numbers front) (numbers later ++ rest)) in
-    ap (λ (xs : List ℕ). numbers_in 68 (drop (later_begin version) xs)) parts
-    ∙ ap (numbers_in 68) (drop_at (letters version ++ numbers front) (numbers later ++ rest) (later_begin version)
-    (omega (arith, length-append (letters version) (numbers front), letters_length version, numbers_length front, place version h)))
+    let parts : version_letters version ++ (numbers (header_numbers version h) ++ rest) ≡ (version_letters version ++ numbers front) ++ (numbers later ++ rest) =
+    ap (λ (xs : List ℕ). version_letters version ++ (numbers xs ++ rest)) ns
+    ∙ ap (λ (xs : List ℕ). version_letters version ++ (xs ++ rest)) (flat_map-append number_bytes front later)
+    ∙ ap (λ (xs : List ℕ). version_letters version ++ xs) (append_assoc (numbers front) (numbers later) rest)
+    ∙ sym (append_assoc (version_letters version) (numbers front) (numbers later ++ rest)) in
+    ap (λ (xs : List ℕ). leading_numbers 68 (drop (later_begin version) xs)) parts
+    ∙ ap (leading_numbers 68) (drop_at (version_letters version ++ numbers front) (numbers later ++ rest) (later_begin version)
+    (omega (arith, length-append (version_letters version) (numbers front), letters_length version, numbers_length front, place version h)))
     ∙ so_many_again 68 later rest (later_length h savable.registers) (later_fit h savable.numbers)
   where
     place : (version : Version) (h : Header) → 8 + 8 * length (size_numbers h ++ device_numbers version h) ≡ later_begin version
@@ -282,13 +282,13 @@ device_number_again begin m rest size =
     let h = header_of m in
     let device = bit_number 0 m.device in
     let tail = numbers (later_numbers h) ++ rest in
-    let parts : begin ++ (numbers (header_numbers Third h) ++ rest) ≡ (begin ++ numbers (size_numbers h)) ++ (number device ++ tail) =
-    ap (λ (xs : List ℕ). begin ++ (xs ++ rest)) (flat_map-append number (size_numbers h) (device ∷ later_numbers h))
-    ∙ ap (λ (xs : List ℕ). begin ++ xs) (append_assoc (numbers (size_numbers h)) (number device ++ numbers (later_numbers h)) rest)
-    ∙ sym (append_assoc begin (numbers (size_numbers h)) ((number device ++ numbers (later_numbers h)) ++ rest))
-    ∙ ap (λ (xs : List ℕ). (begin ++ numbers (size_numbers h)) ++ xs) (append_assoc (number device) (numbers (later_numbers h)) rest) in
+    let parts : begin ++ (numbers (header_numbers Third h) ++ rest) ≡ (begin ++ numbers (size_numbers h)) ++ (number_bytes device ++ tail) =
+    ap (λ (xs : List ℕ). begin ++ (xs ++ rest)) (flat_map-append number_bytes (size_numbers h) (device ∷ later_numbers h))
+    ∙ ap (λ (xs : List ℕ). begin ++ xs) (append_assoc (numbers (size_numbers h)) (number_bytes device ++ numbers (later_numbers h)) rest)
+    ∙ sym (append_assoc begin (numbers (size_numbers h)) ((number_bytes device ++ numbers (later_numbers h)) ++ rest))
+    ∙ ap (λ (xs : List ℕ). (begin ++ numbers (size_numbers h)) ++ xs) (append_assoc (number_bytes device) (numbers (later_numbers h)) rest) in
     ap (λ (xs : List ℕ). bit 0 (number_in (drop 40 xs))) parts
-    ∙ ap (λ (xs : List ℕ). bit 0 (number_in xs)) (drop_at (begin ++ numbers (size_numbers h)) (number device ++ tail) 40
+    ∙ ap (λ (xs : List ℕ). bit 0 (number_in xs)) (drop_at (begin ++ numbers (size_numbers h)) (number_bytes device ++ tail) 40
     (omega (arith, length-append begin (numbers (size_numbers h)), size, numbers_length (size_numbers h))))
     ∙ ap (λ (n : ℕ). bit 0 n) (number_again device tail (small m.device)) ∙ device_again m.device
   where
@@ -297,10 +297,10 @@ device_number_again begin m rest size =
     small false = omega arith
 
 device_told : (version : Version) (m : Machine) (rest : List ℕ) → CanTell version m
-    → device_in version (letters version ++ (numbers (header_numbers version (header_of m)) ++ rest)) ≡ m.device
+    → device_in version (version_letters version ++ (numbers (header_numbers version (header_of m)) ++ rest)) ≡ m.device
 device_told First m rest tells = sym tells.0
-device_told Second m rest tells = device_number_again (letters Second) m rest refl
-device_told Third m rest tells = device_number_again (letters Third) m rest refl
+device_told Second m rest tells = device_number_again (version_letters Second) m rest refl
+device_told Third m rest tells = device_number_again (version_letters Third) m rest refl
 
 machine_by_again : (version : Version) (m : Machine) (rest : List ℕ) → IsSavable m → CanTell version m
     → machine_by version (form_with version m rest) ≡ from_console version (header_again m) (console_form version m rest)
@@ -344,7 +344,7 @@ round_trip version m savable tells =
 
 pub bad_exactly : BadExactly
 bad_exactly bytes none version m savable tells is =
-    let read : saved_in bytes ≡ record { version = version; machine = m } = ap saved_in (sym is) ∙ round_trip version m savable tells in
+    let read : saved_machine_in bytes ≡ record { version = version; machine = m } = ap saved_machine_in (sym is) ∙ round_trip version m savable tells in
     none (subst (λ (s : SavedMachine). IsSavable s.machine) (sym read) savable) (ap saved_form read ∙ is)
 
 -- what comes after the front
@@ -355,31 +355,31 @@ first_split : (version : Version) (m : Machine) (rest : List ℕ) → first_form
 unfolding first_form
 first_split First m rest = refl
 first_split Second m rest = refl
-first_split Third m rest = further (number (length m.platform.virt.first)) (flat_map first_entry_form m.platform.virt.first) [] rest
+first_split Third m rest = further (number_bytes (length m.platform.virt.first)) (flat_map first_entry_form m.platform.virt.first) [] rest
 
 spaces_split : (version : Version) (m : Machine) (rest : List ℕ) → spaces_form version m rest ≡ spaces_form version m [] ++ rest
 unfolding spaces_form
 spaces_split version m rest =
-    ap (λ (tail : List ℕ). number (length m.spaces) ++ (flat_map space_form m.spaces ++ tail)) (first_split version m rest)
-    ∙ further (number (length m.spaces)) (flat_map space_form m.spaces) (first_form version m []) rest
+    ap (λ (tail : List ℕ). number_bytes (length m.spaces) ++ (flat_map space_form m.spaces ++ tail)) (first_split version m rest)
+    ∙ further (number_bytes (length m.spaces)) (flat_map space_form m.spaces) (first_form version m []) rest
 
 inputs_split : (version : Version) (m : Machine) (rest : List ℕ) → inputs_form version m rest ≡ inputs_form version m [] ++ rest
 unfolding inputs_form
 inputs_split version m rest = let inputs = m.platform.console.inputs in
-    ap (λ (tail : List ℕ). number (length inputs) ++ (flat_map input_form inputs ++ tail)) (spaces_split version m rest)
-    ∙ further (number (length inputs)) (flat_map input_form inputs) (spaces_form version m []) rest
+    ap (λ (tail : List ℕ). number_bytes (length inputs) ++ (flat_map input_form inputs ++ tail)) (spaces_split version m rest)
+    ∙ further (number_bytes (length inputs)) (flat_map input_form inputs) (spaces_form version m []) rest
 
 console_split : (version : Version) (m : Machine) (rest : List ℕ) → console_form version m rest ≡ console_form version m [] ++ rest
 unfolding console_form
 console_split version m rest = let bytes = m.platform.console.bytes in
-    ap (λ (tail : List ℕ). number (length bytes) ++ (bytes ++ tail)) (inputs_split version m rest)
-    ∙ further (number (length bytes)) bytes (inputs_form version m []) rest
+    ap (λ (tail : List ℕ). number_bytes (length bytes) ++ (bytes ++ tail)) (inputs_split version m rest)
+    ∙ further (number_bytes (length bytes)) bytes (inputs_form version m []) rest
 
 pub form_split : (version : Version) (m : Machine) (rest : List ℕ) → form_with version m rest ≡ front_form version m ++ rest
 unfolding form_with
 form_split version m rest = let ns = header_numbers version (header_of m) in
-    ap (λ (tail : List ℕ). letters version ++ (numbers ns ++ tail)) (console_split version m rest)
-    ∙ further (letters version) (numbers ns) (console_form version m []) rest
+    ap (λ (tail : List ℕ). version_letters version ++ (numbers ns ++ tail)) (console_split version m rest)
+    ∙ further (version_letters version) (numbers ns) (console_form version m []) rest
 
 pub front_decides : FrontDecides
 front_decides version m bytes k within ram = (

@@ -11,7 +11,7 @@ use Rattle.guest_save.proofs.Buffering.{buffers_stopped, buffers_then}
 use Rattle.guest_save.specs.declared.versions.Version.TheVariants.{Third}
 use Rattle.guest_save.specs.Buffers.{Buffers}
 use Rattle.guest_save.specs.Forms.{first_entry_form, first_form}
-use Rattle.guest_save.specs.Numbers.{number}
+use Rattle.guest_save.specs.Numbers.{number_bytes}
 use Rattle.machine_defs.specs.Machine.{Machine}
 use Rattle.outside.specs.declared.sinks.Sink as sinks
 
@@ -20,9 +20,9 @@ pub no_space : Space
 no_space = record { key = Bare; entries = [] }
 
 -- first-stage translations, with nothing behind them
-pub first_whole : (m : Machine) → first_form Third m [] ≡ number (length m.platform.virt.first) ++ flat_map first_entry_form m.platform.virt.first
+pub first_whole : (m : Machine) → first_form Third m [] ≡ number_bytes (length m.platform.virt.first) ++ flat_map first_entry_form m.platform.virt.first
 unfolding first_form
-first_whole m = ap (λ (bytes : List ℕ). number (length m.platform.virt.first) ++ bytes) (append-nil (flat_map first_entry_form m.platform.virt.first))
+first_whole m = ap (λ (bytes : List ℕ). number_bytes (length m.platform.virt.first) ++ bytes) (append-nil (flat_map first_entry_form m.platform.virt.first))
 
 module _ (ram : List ℕ) where
   next_block : (n : ℕ) → take ((n + 1) * block_size) ram ≡ take (n * block_size) ram ++ take block_size (drop (n * block_size) ram)

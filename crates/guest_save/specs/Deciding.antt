@@ -17,7 +17,7 @@ use Rattle.guest_save.specs.declared.headers.Header.{Header}
 use Rattle.guest_save.specs.declared.versions.Version.TheVariants.{Third}
 use Rattle.guest_save.specs.Headers.{header_numbers, header_of}
 use Rattle.guest_save.specs.Savable.{pages_of, top_level_of}
-use Rattle.guest_save.specs.Saves.{saved_form, saved_in}
+use Rattle.guest_save.specs.Saves.{saved_form, saved_machine_in}
 use Rattle.machine_defs.specs.Machine.{Machine}
 use Rattle.machine_laws.specs.FirstKeys.{first_levels}
 use Rattle.machine_laws.specs.Reservations.{places_from}
@@ -49,9 +49,9 @@ abbrev pub has_registers : Regs → Bool
 has_registers regs = length regs.x == 32 && regs.pc % 4 == 0
 
 -- what is reserved, if anything is, lies aligned in RAM of this size
-abbrev pub is_reserved : Option (ℕ × ℕ) → ℕ → Bool
-is_reserved None size = true
-is_reserved (Some (place, width)) size =
+abbrev pub is_reservation_within : Option (ℕ × ℕ) → ℕ → Bool
+is_reservation_within None size = true
+is_reservation_within (Some (place, width)) size =
     place % width == 0 && (width == 4 || width == 8) && places_from ram_base size place
 
 abbrev pub is_in_ram : ℕ → Entry → Bool
@@ -119,7 +119,7 @@ is_savable m = let p = m.platform in
     && list_all (λ n. nat_lt n (2 ^ 64)) (header_numbers Third (header_of m))
     && nat_le p.steps (2 ^ 60)
     && nat_le p.clock.time (2 ^ 62 + p.steps)
-    && is_reserved p.virt.reservation (length m.ram)
+    && is_reservation_within p.virt.reservation (length m.ram)
     && nat_le (length m.spaces) m.space_room
     && list_all (space_fits (length m.ram) m.entry_room m.device) m.spaces
     && all_pairs has_other_key m.spaces
@@ -128,4 +128,4 @@ is_savable m = let p = m.platform in
 
 -- bytes are the form of a machine that can be saved, in the version that they tell: of the one that they give
 unfoldable pub is_saved : List ℕ → Bool
-is_saved bytes = is_savable (saved_in bytes).machine && bytes_eq (saved_form (saved_in bytes)) bytes
+is_saved bytes = is_savable (saved_machine_in bytes).machine && bytes_eq (saved_form (saved_machine_in bytes)) bytes

@@ -12,13 +12,13 @@ use Rattle.arch_defs.specs.Spaces.{Space}
 use Rattle.guest_save.specs.declared.versions.Version.{Version}
 use Rattle.guest_save.specs.declared.versions.Version.TheVariants.{First, Second, Third}
 use Rattle.guest_save.specs.Headers.{header_numbers, header_of}
-use Rattle.guest_save.specs.Numbers.{number, numbers}
-use Rattle.guest_save.specs.Versions.{letters}
+use Rattle.guest_save.specs.Numbers.{number_bytes, numbers}
+use Rattle.guest_save.specs.Versions.{version_letters}
 use Rattle.machine_defs.specs.Machine.{Machine}
 
 -- an input of the console: its moment, and its byte
 abbrev pub input_form : ℕ × ℕ → List ℕ
-input_form input = number input.0 ++ input.1 ∷ []
+input_form input = number_bytes input.0 ++ input.1 ∷ []
 
 -- what an entry permits, and the level of its leaf
 abbrev pub flags_of : Entry → ℕ
@@ -30,7 +30,7 @@ entry_form e = numbers (e.page ∷ e.frame ∷ flags_of e ∷ [])
 -- a space: its key, and its entries, oldest first
 abbrev pub space_form : Space → List ℕ
 space_form s =
-    number (hgatp_bits s.key) ++ (number (length s.entries) ++ flat_map entry_form s.entries)
+    number_bytes (hgatp_bits s.key) ++ (number_bytes (length s.entries) ++ flat_map entry_form s.entries)
 
 -- for whom a first-stage translation is: V and hgatp, or twice 0
 abbrev pub tag_numbers : Tag → ℕ × ℕ
@@ -56,23 +56,23 @@ unfoldable pub first_form : Version → Machine → List ℕ → List ℕ
 first_form First m rest = rest
 first_form Second m rest = rest
 first_form Third m rest = let first = m.platform.virt.first in
-    number (length first) ++ (flat_map first_entry_form first ++ rest)
+    number_bytes (length first) ++ (flat_map first_entry_form first ++ rest)
 
 unfoldable pub spaces_form : Version → Machine → List ℕ → List ℕ
 spaces_form version m rest =
-    number (length m.spaces) ++ (flat_map space_form m.spaces ++ first_form version m rest)
+    number_bytes (length m.spaces) ++ (flat_map space_form m.spaces ++ first_form version m rest)
 
 unfoldable pub inputs_form : Version → Machine → List ℕ → List ℕ
 inputs_form version m rest = let inputs = m.platform.console.inputs in
-    number (length inputs) ++ (flat_map input_form inputs ++ spaces_form version m rest)
+    number_bytes (length inputs) ++ (flat_map input_form inputs ++ spaces_form version m rest)
 
 unfoldable pub console_form : Version → Machine → List ℕ → List ℕ
 console_form version m rest = let bytes = m.platform.console.bytes in
-    number (length bytes) ++ (bytes ++ inputs_form version m rest)
+    number_bytes (length bytes) ++ (bytes ++ inputs_form version m rest)
 
 unfoldable pub form_with : Version → Machine → List ℕ → List ℕ
 form_with version m rest =
-    letters version ++ (numbers (header_numbers version (header_of m)) ++ console_form version m rest)
+    version_letters version ++ (numbers (header_numbers version (header_of m)) ++ console_form version m rest)
 
 -- all of a machine but its RAM, and all of it
 abbrev pub front_form : Version → Machine → List ℕ

@@ -80,11 +80,11 @@ header_of m = record {
 }
 
 -- a status, a mode and a reservation, whatever the numbers are
-abbrev pub status_of : ℕ → Status
-status_of n = if n == 0 then Running else if n == 1 then Waiting else Stopped
+abbrev pub status_by_number : ℕ → Status
+status_by_number n = if n == 0 then Running else if n == 1 then Waiting else Stopped
 
-abbrev pub mode_of : ℕ → Mode
-mode_of n = if n == 0 then HS else if n == 1 then U else if n == 2 then VS else VU
+abbrev pub mode_by_number : ℕ → Mode
+mode_by_number n = if n == 0 then HS else if n == 1 then U else if n == 2 then VS else VU
 
 abbrev pub reservation_of : ℕ → ℕ → Option (ℕ × ℕ)
 reservation_of width place = if width == 0 then None else Some (place, width % 256)
@@ -97,14 +97,14 @@ header_in sizes device ns = record {
   entries = slice_index sizes 2;
   console = slice_index sizes 3;
   device = device;
-  status = status_of (slice_index ns 0);
+  status = status_by_number (slice_index ns 0);
   steps = slice_index ns 1;
   time = slice_index ns 2;
   timer = slice_index ns 3;
   state = record {
     regs = record { x = 0 ∷ take 31 (drop 6 ns); pc = slice_index ns 5 };
     csrs = csrs_in (drop 37 ns);
-    mode = mode_of (slice_index ns 4);
+    mode = mode_by_number (slice_index ns 4);
     reservation = reservation_of (slice_index ns 66) (slice_index ns 67);
     first = [];
   };

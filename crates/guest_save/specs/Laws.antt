@@ -11,7 +11,7 @@ use Rattle.guest_save.specs.Headers.{header_of}
 use Rattle.guest_save.specs.Reading.{machine_in}
 use Rattle.guest_save.specs.Registers.{csrs_in}
 use Rattle.guest_save.specs.Savable.{HasSizes, IsSavable, IsSavableEntry}
-use Rattle.guest_save.specs.Saves.{saved_form, saved_in}
+use Rattle.guest_save.specs.Saves.{saved_form, saved_machine_in}
 use Rattle.guest_save.specs.Versions.{CanTell}
 use Rattle.guest_specs.specs.declared.guests.GuestSpec.{GuestSpec}
 use Rattle.guest_specs.specs.Inputs.{AreInputs}
@@ -25,7 +25,7 @@ use Rattle.machine_laws.specs.StorableStates.{stored_form}
 -- the form of a machine that can be saved gives it back, in each version that can tell it
 abbrev pub RoundTrip : Type 0
 RoundTrip = (version : Version) (m : Machine) → IsSavable m → CanTell version m
-    → saved_in (form_of version m) ≡ record { version = version; machine = m }
+    → saved_machine_in (form_of version m) ≡ record { version = version; machine = m }
 
 -- bytes are not a form of a machine that can be saved
 abbrev pub IsNoForm : List ℕ → Type 0
@@ -35,7 +35,7 @@ IsNoForm bytes = (version : Version) (m : Machine) → IsSavable m → CanTell v
 -- they are none where the machine that they give cannot be saved, or has another form
 abbrev pub BadExactly : Type 0
 BadExactly = (bytes : List ℕ)
-    → (IsSavable (saved_in bytes).machine → saved_form (saved_in bytes) ≡ bytes → ⊥) → IsNoForm bytes
+    → (IsSavable (saved_machine_in bytes).machine → saved_form (saved_machine_in bytes) ≡ bytes → ⊥) → IsNoForm bytes
 
 -- the front of a machine's form comes first, so bytes whose end is its RAM are its form exactly where their
 -- front is its front
@@ -51,7 +51,7 @@ ReadIsStored = (ns : List ℕ) → stored_form (csrs_in ns) ≡ csrs_in ns
 
 -- a machine that can go on: it is orderly, what it caches and reserves is in its RAM, and that is of whole
 -- pages
-pub record CanGoOn (m : Machine) : Type 0 where
+pub record IsRunnable (m : Machine) : Type 0 where
   pub orderly : IsOrderly m
   pub caches : CachesInRam m
   pub reserves : ReservesInRam m
@@ -59,7 +59,7 @@ pub record CanGoOn (m : Machine) : Type 0 where
 
 -- a machine that can be saved can go on, and its entries can be filled
 abbrev pub SavableGoesOn : Type 0
-SavableGoesOn = (m : Machine) → IsSavable m → CanGoOn m
+SavableGoesOn = (m : Machine) → IsSavable m → IsRunnable m
 
 abbrev pub SavableIsFilled : Type 0
 SavableIsFilled = (key : GuestRoot) (blocks : List ℕ) (device : Bool) (e : Entry)
@@ -109,7 +109,7 @@ SavedFirstFresh = (saved : Machine) (n : ℕ) → FirstFreshSince saved n
 
 -- bytes are the form of a machine that can be saved: of the one that they give
 abbrev pub IsSaved : List ℕ → Type 0
-IsSaved bytes = IsSavable (saved_in bytes).machine × (saved_form (saved_in bytes) ≡ bytes)
+IsSaved bytes = IsSavable (saved_machine_in bytes).machine × (saved_form (saved_machine_in bytes) ≡ bytes)
 
 -- the test tells exactly whether they are
 abbrev pub SavedExactly : Type 0

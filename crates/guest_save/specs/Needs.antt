@@ -4,5 +4,5 @@ use Rattle.guest_specs.specs.declared.needs.Need.{Need}
 use Rattle.machine_defs.specs.Machine.{Machine}
 
 -- its RAM in blocks, and tables for as many spaces, and entries in each, as it has room for
-abbrev pub need_of : Machine → Need
-need_of m = record { blocks = blocks_of m; spaces = m.space_room; entries = m.entry_room }
+abbrev pub machine_need : Machine → Need
+machine_need m = record { blocks = blocks_of m; spaces = m.space_room; entries = m.entry_room }

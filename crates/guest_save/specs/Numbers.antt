@@ -3,11 +3,11 @@ use Rattle.std.specs.Prelude.{ℕ, zero, suc, List, [], ◌∷◌, length, take,
 use Rattle.std.specs.List.{flat_map}
 use Rattle.std.specs.Int.{from_le_bytes, to_le_bytes, w64}
 
-unfoldable pub number : ℕ → List ℕ
-number n = to_le_bytes w64 n
+unfoldable pub number_bytes : ℕ → List ℕ
+number_bytes n = to_le_bytes w64 n
 
 abbrev pub numbers : List ℕ → List ℕ
-numbers ns = flat_map number ns
+numbers ns = flat_map number_bytes ns
 
 -- the number that bytes begin with; 0 where there are fewer than eight
 unfoldable pub number_in : List ℕ → ℕ
@@ -19,5 +19,5 @@ items_in item size zero bytes = []
 items_in item size (suc count) bytes = item bytes ∷ items_in item size count (drop size bytes)
 
 -- the numbers that bytes begin with, that many
-abbrev pub numbers_in : ℕ → List ℕ → List ℕ
-numbers_in count bytes = items_in number_in 8 count bytes
+abbrev pub leading_numbers : ℕ → List ℕ → List ℕ
+leading_numbers count bytes = items_in number_in 8 count bytes

@@ -14,7 +14,7 @@ use Rattle.guest_save.specs.declared.headers.Header.{Header}
 use Rattle.guest_save.specs.declared.versions.Version.{Version}
 use Rattle.guest_save.specs.declared.versions.Version.TheVariants.{First, Second, Third}
 use Rattle.guest_save.specs.Headers.{header_in}
-use Rattle.guest_save.specs.Numbers.{items_in, number_in, numbers_in}
+use Rattle.guest_save.specs.Numbers.{items_in, number_in, leading_numbers}
 use Rattle.guest_save.specs.Versions.{header_end, later_begin, version_in}
 use Rattle.machine_defs.specs.Machine.{Machine, Platform, with_pending_lines}
 
@@ -41,11 +41,11 @@ count_in most bytes = capped most (number_in bytes)
 abbrev pub input_of : List ℕ → ℕ × ℕ
 input_of bytes = (number_in bytes, slice_index (drop 8 bytes) 0)
 
-abbrev pub inputs_in : ℕ → List ℕ → List (ℕ × ℕ)
-inputs_in count bytes = items_in input_of 9 count bytes
+abbrev pub leading_inputs : ℕ → List ℕ → List (ℕ × ℕ)
+leading_inputs count bytes = items_in input_of 9 count bytes
 
-abbrev pub entry_of : List ℕ → Entry
-entry_of ns = let flags = slice_index ns 2 in record {
+abbrev pub entry_from_numbers : List ℕ → Entry
+entry_from_numbers ns = let flags = slice_index ns 2 in record {
   page = slice_index ns 0;
   frame = slice_index ns 1;
   r = bit 0 flags;
@@ -55,7 +55,7 @@ entry_of ns = let flags = slice_index ns 2 in record {
 }
 
 abbrev pub entry_in : List ℕ → Entry
-entry_in bytes = entry_of (numbers_in 3 bytes)
+entry_in bytes = entry_from_numbers (leading_numbers 3 bytes)
 
 abbrev pub entries_in : ℕ → List ℕ → List Entry
 entries_in count bytes = items_in entry_in 24 count bytes
@@ -71,9 +71,9 @@ space_in bytes =
 abbrev pub after_space : List ℕ → List ℕ
 after_space bytes = drop (24 * entry_count bytes) (drop 16 bytes)
 
-unfoldable pub spaces_in : ℕ → List ℕ → List Space
-spaces_in zero bytes = []
-spaces_in (suc k) bytes = space_in bytes ∷ spaces_in k (after_space bytes)
+unfoldable pub leading_spaces : ℕ → List ℕ → List Space
+leading_spaces zero bytes = []
+leading_spaces (suc k) bytes = space_in bytes ∷ leading_spaces k (after_space bytes)
 
 unfoldable pub after_spaces : ℕ → List ℕ → List ℕ
 after_spaces zero bytes = bytes
@@ -97,7 +97,7 @@ first_entry_of ns = let flags = slice_index ns 5 in record {
 }
 
 abbrev pub first_entry_in : List ℕ → FirstEntry
-first_entry_in bytes = first_entry_of (numbers_in 6 bytes)
+first_entry_in bytes = first_entry_of (leading_numbers 6 bytes)
 
 abbrev pub first_entries_in : ℕ → List ℕ → List FirstEntry
 first_entries_in count bytes = items_in first_entry_in 48 count bytes
@@ -140,12 +140,12 @@ unfoldable pub from_spaces : Version → Header → List ℕ → List (ℕ × �
 from_spaces version h console inputs bytes =
     let k = count_in most_spaces bytes in
     let rest = after_spaces k (drop 8 bytes) in
-    machine_with h console inputs (spaces_in k (drop 8 bytes)) (first_in version rest)
+    machine_with h console inputs (leading_spaces k (drop 8 bytes)) (first_in version rest)
     (after_first version rest)
 
 unfoldable pub from_inputs : Version → Header → List ℕ → List ℕ → Machine
 from_inputs version h console bytes = let k = count_in most_inputs bytes in
-    from_spaces version h console (inputs_in k (drop 8 bytes)) (drop (9 * k) (drop 8 bytes))
+    from_spaces version h console (leading_inputs k (drop 8 bytes)) (drop (9 * k) (drop 8 bytes))
 
 unfoldable pub from_console : Version → Header → List ℕ → Machine
 from_console version h bytes = let k = count_in most_console bytes in
@@ -159,8 +159,8 @@ device_in Third bytes = bit 0 (number_in (drop 40 bytes))
 
 -- the header of bytes in a version
 abbrev pub header_by : Version → List ℕ → Header
-header_by version bytes = header_in (numbers_in 4 (drop 8 bytes)) (device_in version bytes)
-    (numbers_in 68 (drop (later_begin version) bytes))
+header_by version bytes = header_in (leading_numbers 4 (drop 8 bytes)) (device_in version bytes)
+    (leading_numbers 68 (drop (later_begin version) bytes))
 
 -- the machine of bytes in a version, and in that which they tell
 unfoldable pub machine_by : Version → List ℕ → Machine

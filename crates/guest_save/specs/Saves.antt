@@ -15,5 +15,5 @@ abbrev pub saved_form : SavedMachine → List ℕ
 saved_form saved = form_of saved.version saved.machine
 
 -- the one that any bytes give
-abbrev pub saved_in : List ℕ → SavedMachine
-saved_in bytes = record { version = version_in bytes; machine = machine_in bytes }
+abbrev pub saved_machine_in : List ℕ → SavedMachine
+saved_machine_in bytes = record { version = version_in bytes; machine = machine_in bytes }

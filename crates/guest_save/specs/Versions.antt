@@ -6,16 +6,16 @@ use Rattle.guest_save.specs.declared.versions.Version.TheVariants.{First, Second
 use Rattle.machine_defs.specs.Machine.{Machine}
 
 -- the letters that a form begins with
-abbrev pub letters : Version → List ℕ
-letters First = codes "NESTHV01"
-letters Second = codes "NESTHV02"
-letters Third = codes "NESTHV03"
+abbrev pub version_letters : Version → List ℕ
+version_letters First = codes "NESTHV01"
+version_letters Second = codes "NESTHV02"
+version_letters Third = codes "NESTHV03"
 
 -- the version of bytes: the one with whose letters they begin, else the third
 unfoldable pub version_in : List ℕ → Version
 version_in bytes = let begin = take 8 bytes in
-    if bytes_eq begin (letters First) then First
-    else if bytes_eq begin (letters Second) then Second
+    if bytes_eq begin (version_letters First) then First
+    else if bytes_eq begin (version_letters Second) then Second
     else Third
 
 -- where the numbers behind the sizes and the device page begin, and where the header ends: behind the letters

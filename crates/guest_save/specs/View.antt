@@ -4,8 +4,8 @@ use Rattle.arch_defs.specs.Memory.{block_size}
 use Rattle.guest_save.specs.declared.machine_parts.MachineParts.TheInside.{Inside}
 use Rattle.machine_defs.specs.Machine.{Machine}
 
-abbrev pub machine_of : Inside → Machine
-machine_of parts = let h = parts.header in record {
+abbrev pub machine_inside : Inside → Machine
+machine_inside parts = let h = parts.header in record {
   platform = record {
     virt = record h.state { first = parts.first.items };
     clock = record { time = h.time; timer = h.timer };

@@ -2,7 +2,7 @@
 
 ghost use Rattle.std.specs.Prelude.{◌≡◌, ◌≤◌, [], length, OnOk};
 ghost use Rattle.guest_save.specs.Buffers.{Buffers, PutsText};
-ghost use Rattle.guest_save.specs.Numbers.{number, numbers};
+ghost use Rattle.guest_save.specs.Numbers.{number_bytes, numbers};
 
 use arrayvec::ArrayVec;
 use outside::{Sink, SinkFault};
@@ -60,9 +60,9 @@ pub fn append_piece<O: Sink>(piece: &[u8], held: &mut Buffer, out: &mut O) -> Re
 }
 
 /// Appends a number.
-#[tactic(auto, unfolding(crate::specs::Numbers::number))]
+#[tactic(auto, unfolding(crate::specs::Numbers::number_bytes))]
 pub fn append_number<O: Sink>(value: u64, held: &mut Buffer, out: &mut O) -> Result<(), SinkFault>
-    ensures { Buffers O.Sink result out.old held.old.items out.new held.new.items (number value) }
+    ensures { Buffers O.Sink result out.old held.old.items out.new held.new.items (number_bytes value) }
 {
     append(&value.to_le_bytes(), held, out)
 }

@@ -3,7 +3,7 @@
 ghost use Rattle.std.specs.Prelude.{◌≡◌, ◌↔◌, ◌≤◌, ◌||◌, All, IfOk, IsTrue, true};
 ghost use Rattle.std.specs.List.{AllPairs};
 ghost use Rattle.guest_save.specs.Forms.{first_flags_of, first_numbers, tag_numbers};
-ghost use Rattle.guest_save.specs.Numbers.{numbers_in};
+ghost use Rattle.guest_save.specs.Numbers.{leading_numbers};
 ghost use Rattle.guest_save.specs.Reading.{after_first, first_entries_in, first_entry_of, first_in, tag_in};
 ghost use Rattle.machine_laws.specs.FirstKeys.{AreApart, HasFirst, IsOfFirstTable, first_levels};
 
@@ -64,7 +64,7 @@ pub fn first_numbers(entry: &FirstEntry) -> [u64; 6]
 
 // The translation that bytes begin with.
 fn first_entry_in(bytes: &[u8]) -> FirstEntry
-    ensures { result ≡ first_entry_of (numbers_in 6 bytes.now) }
+    ensures { result ≡ first_entry_of (leading_numbers 6 bytes.now) }
 {
     let mut numbers = [0; 6];
     numbers_in(bytes, &mut numbers);

@@ -2,7 +2,7 @@
 
 ghost use Rattle.std.specs.Prelude.{◌≡◌};
 ghost use Rattle.arch_defs.specs.Bits.{bit_number};
-ghost use Rattle.guest_save.specs.Headers.{header_in, mode_number, mode_of, progress_numbers, reservation_numbers, reservation_of, size_numbers, status_number, status_of};
+ghost use Rattle.guest_save.specs.Headers.{header_in, mode_number, mode_by_number, progress_numbers, reservation_numbers, reservation_of, size_numbers, status_number, status_by_number};
 
 use crate::registers::csrs_in;
 use arch_defs::{FirstBuffer, Mode, Regs, Virtual};
@@ -41,7 +41,7 @@ fn status_number(status: Status) -> u64
 }
 
 fn status_of(number: u64) -> Status
-    ensures { result ≡ status_of number }
+    ensures { result ≡ status_by_number number }
 {
     match number {
         0 => Status::Running,
@@ -62,7 +62,7 @@ fn mode_number(mode: Mode) -> u64
 }
 
 fn mode_of(number: u64) -> Mode
-    ensures { result ≡ mode_of number }
+    ensures { result ≡ mode_by_number number }
 {
     match number {
         0 => Mode::HS,

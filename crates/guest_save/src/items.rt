@@ -2,8 +2,8 @@
 
 ghost use Rattle.std.specs.Prelude.{◌≡◌, ◌≤◌, IfOk};
 ghost use Rattle.guest_save.specs.Forms.{flags_of};
-ghost use Rattle.guest_save.specs.Numbers.{numbers_in};
-ghost use Rattle.guest_save.specs.Reading.{after_space, after_spaces, entries_in, entry_count, entry_of, input_of, inputs_in, space_in, spaces_in};
+ghost use Rattle.guest_save.specs.Numbers.{leading_numbers};
+ghost use Rattle.guest_save.specs.Reading.{after_space, after_spaces, entries_in, entry_count, entry_from_numbers, input_of, leading_inputs, space_in, leading_spaces};
 
 use crate::numbers::{after, count_in, number_in, numbers_in};
 use arch_defs::{Entry, GuestRoot};
@@ -41,7 +41,7 @@ fn input_of(bytes: &[u8]) -> (u64, u8)
 /// The given number of inputs.
 pub fn inputs_in(alloc: Global, count: usize, bytes: &[u8]) -> Result<Vec<(u64, u8)>, NoMemory>
     requires { count ≤ 65536 }
-    ensures { IfOk result (λ inputs. inputs.items ≡ inputs_in count bytes.now) }
+    ensures { IfOk result (λ inputs. inputs.items ≡ leading_inputs count bytes.now) }
 {
     let mut inputs = Vec::with_capacity(alloc, count)?;
     let mut rest = bytes;
@@ -61,7 +61,7 @@ pub fn flags_of(entry: Entry) -> u64
 
 // The entry that bytes begin with.
 fn entry_in(bytes: &[u8]) -> Entry
-    ensures { result ≡ entry_of (numbers_in 3 bytes.now) }
+    ensures { result ≡ entry_from_numbers (leading_numbers 3 bytes.now) }
 {
     let mut numbers = [0; 3];
     numbers_in(bytes, &mut numbers);
@@ -115,7 +115,7 @@ fn after_space(bytes: &[u8]) -> &[u8]
 /// The given number of spaces.
 pub fn spaces_in(alloc: Global, count: usize, bytes: &[u8]) -> Result<Vec<SavedSpace>, NoMemory>
     requires { count ≤ 8 }
-    ensures { IfOk result (λ spaces. spaces.items ≡ spaces_in count bytes.now) }
+    ensures { IfOk result (λ spaces. spaces.items ≡ leading_spaces count bytes.now) }
 {
     let mut spaces = Vec::with_capacity(alloc, count)?;
     let mut rest = bytes;

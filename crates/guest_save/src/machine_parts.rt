@@ -43,11 +43,11 @@ pub struct MachineParts {
 
 impl Model for MachineParts {
     ghost use Rattle.machine_defs.specs.Machine.{Machine};
-    ghost use Rattle.guest_save.specs.View.{IsOfHeader, machine_of};
+    ghost use Rattle.guest_save.specs.View.{IsOfHeader, machine_inside};
 
     ghost Value = { Machine };
 
-    ghost view = { machine_of };
+    ghost view = { machine_inside };
 
     ghost invariant = { IsOfHeader };
 }

@@ -1,7 +1,7 @@
 // Numbers of eight bytes, little endian.
 
 ghost use Rattle.std.specs.Prelude.{◌≡◌, ◌≤◌, drop, length};
-ghost use Rattle.guest_save.specs.Numbers.{number_in, numbers_in};
+ghost use Rattle.guest_save.specs.Numbers.{number_in, leading_numbers};
 ghost use Rattle.guest_save.specs.Reading.{count_in};
 
 /// The number that bytes begin with; 0 where there are fewer than eight.
@@ -30,7 +30,7 @@ pub fn after(bytes: &[u8], count: usize) -> &[u8]
 
 /// The numbers that bytes begin with, as many as there is room for.
 pub fn numbers_in(bytes: &[u8], into: &mut [u64])
-    ensures { into.new ≡ numbers_in (length into.old) bytes.now }
+    ensures { into.new ≡ leading_numbers (length into.old) bytes.now }
 {
     let mut rest = bytes;
     for i in 0..into.len() {

@@ -5,10 +5,10 @@ ghost use Rattle.guest_save.specs.declared.saved.SaveEnd.TheVariants.{NoMemory, 
 ghost use Rattle.guest_save.specs.Deciding.{is_saved};
 ghost use Rattle.guest_save.specs.Forms.{form_of, front_form};
 ghost use Rattle.guest_save.specs.Laws.{IsNoForm};
-ghost use Rattle.guest_save.specs.Needs.{need_of};
+ghost use Rattle.guest_save.specs.Needs.{machine_need};
 ghost use Rattle.guest_save.specs.Reading.{machine_by};
 ghost use Rattle.guest_save.specs.Savable.{IsSavable};
-ghost use Rattle.guest_save.specs.Saves.{saved_form, saved_in};
+ghost use Rattle.guest_save.specs.Saves.{saved_form, saved_machine_in};
 ghost use Rattle.guest_save.specs.Tests.{IsRead};
 ghost use Rattle.guest_save.specs.Versions.{version_in};
 
@@ -66,7 +66,7 @@ impl Model for Saved {
 impl Saved {
     /// What the machine needs of machine memory.
     pub fn need(&self) -> Need
-        ensures { result ≡ need_of self.now.machine }
+        ensures { result ≡ machine_need self.now.machine }
     {
         Need {
             blocks: self.parts.header.blocks,
@@ -166,7 +166,7 @@ fn is_saved(version: Version, parts: &MachineParts, bytes: &[u8]) -> bool
 ///
 /// Out of memory; `Bad` exactly where they are not such a form.
 pub fn read(alloc: Global, bytes: &[u8]) -> Result<Saved, SaveEnd>
-    ensures machine { IfOk result (λ saved. saved ≡ saved_in bytes.now) }
+    ensures machine { IfOk result (λ saved. saved ≡ saved_machine_in bytes.now) }
     ensures savable { IfOk result (λ saved. IsSavable saved.machine) }
     ensures form { IfOk result (λ saved. saved_form saved ≡ bytes.now) }
     ensures bad { IsErrOf result Bad → IsNoForm bytes.now }

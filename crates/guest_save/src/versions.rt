@@ -1,7 +1,7 @@
 // The versions of a form.
 
 ghost use Rattle.std.specs.Prelude.{◌≡◌, take};
-ghost use Rattle.guest_save.specs.Versions.{header_end, later_begin, letters, version_in};
+ghost use Rattle.guest_save.specs.Versions.{header_end, later_begin, version_letters, version_in};
 
 /// A version of a form, which its letters tell.
 #[derive(Clone, Copy, Debug, PartialEq, Eq)]
@@ -25,7 +25,7 @@ fn first_eight(bytes: &[u8]) -> &[u8]
 impl Version {
     /// The letters that a form begins with.
     pub fn letters(self) -> [u8; 8]
-        ensures { result ≡ letters self }
+        ensures { result ≡ version_letters self }
     {
         match self {
             Version::First => *b"NESTHV01",

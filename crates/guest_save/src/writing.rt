@@ -8,7 +8,7 @@ ghost use Rattle.guest_save.specs.declared.versions.Version.TheVariants.{Third};
 ghost use Rattle.guest_save.specs.Buffers.{Buffers, PutsText};
 ghost use Rattle.guest_save.specs.Forms.{console_form, entry_form, first_entry_form, first_form, form, front_form, input_form, inputs_form, space_form, spaces_form};
 ghost use Rattle.guest_save.specs.Headers.{blocks_of, device_numbers, header_numbers, header_of, later_numbers, numbered, state_numbers};
-ghost use Rattle.guest_save.specs.Numbers.{number, numbers};
+ghost use Rattle.guest_save.specs.Numbers.{number_bytes, numbers};
 
 use crate::buffers::{
     Buffer, append, append_number, append_numbers, append_piece, append_whole, flush,
@@ -152,7 +152,7 @@ fn append_counted<S: Snapshot, O: Sink>(
 ) -> Result<(), SinkFault>
     requires { space < length (S.machine snapshot.now).spaces }
     ensures { (d : Space) → Buffers O.Sink result out.old held.old.items out.new held.new.items
-        (number (length (slice_index_or (S.machine snapshot.now).spaces space d).entries)
+        (number_bytes (length (slice_index_or (S.machine snapshot.now).spaces space d).entries)
         ++ flat_map entry_form (slice_index_or (S.machine snapshot.now).spaces space d).entries) }
 {
     append_number(snapshot.len(space), held, out)?;

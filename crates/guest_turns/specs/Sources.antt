@@ -21,7 +21,7 @@ machines_of_sources sources = map machine_of_source sources
 -- what it needs of machine memory
 abbrev pub need_of_source : Source → Need
 need_of_source (Fresh spec) = need_of spec
-need_of_source (Kept name kept) = saved.need_of kept.machine
+need_of_source (Kept name kept) = saved.machine_need kept.machine
 
 abbrev pub needs_of_sources : List Source → List Need
 needs_of_sources sources = map need_of_source sources

@@ -10,7 +10,7 @@ use Rattle.nesthv_top.specs.declared.ends.Ended.TheVariants as ended
 use Rattle.nesthv_top.specs.declared.ends.Job.{Job}
 use Rattle.nesthv_top.specs.declared.ends.RunEnd.TheVariants.{WriteFault}
 use Rattle.nesthv_top.specs.Endings.{GrewBy, CountsIfRun, ReadsFrom, SaysOfAccount}
-use Rattle.nesthv_top.specs.Plans.{Plan, entries_of, planned, run_of, steps_of, work_plan}
+use Rattle.nesthv_top.specs.Plans.{Plan, planned_entries, planned, run_of, steps_of, work_plan}
 use Rattle.nesthv_top.specs.Runnings.{CountsTurns, IsAccountFor}
 use Rattle.nesthv_top.specs.Seen.{IsJob, plan_seen}
 use Rattle.nesthv_top.proofs.SourceMachines.{rooms_of}
@@ -40,7 +40,7 @@ ran told command plan old new plan_is no_check bound grew = record {
   entries = grew.entries_grow;
   taken = grew.taken_grow;
   bound = bound;
-  most = λ f t. subst (λ plan. GrewBy (entries_of plan) (steps_of plan) old new) (sym (plan_is f t))
+  most = λ f t. subst (λ plan. GrewBy (planned_entries plan) (steps_of plan) old new) (sym (plan_is f t))
       (record { entries_most = grew.entries_most; taken_most = grew.taken_most });
 }
 

@@ -31,7 +31,7 @@ use Rattle.nesthv_top.specs.Endings.{IsFirstRead, SaysOfReads}
 use Rattle.nesthv_top.specs.Ends.{ended_by, IfFailed, Leaves}
 use Rattle.nesthv_top.specs.Loads.{all_read_for, frames_read, sources_with, IsAllRead, IsTested}
 use Rattle.nesthv_top.specs.Plans.{planned}
-use Rattle.nesthv_top.specs.Reads.{accepted_steps, ask, config_steps, fault_by, file_steps, frames_fault, guest_fault, guests_steps, making, reading, report_steps, steps_for, testing, text_fault, BeginsWithConfig}
+use Rattle.nesthv_top.specs.Reads.{accepted_steps, ask, config_steps, fault_by, file_steps, frames_fault, absent_guest_fault, guests_steps, making, reading, report_steps, steps_for, testing, text_fault, BeginsWithConfig}
 use Rattle.nesthv_top.specs.Seen.{plan_seen, IsJob}
 use Rattle.nesthv_top.specs.Steps.{Step, asks_unless, fault_in, made_of, AreAnswered, ArePassed, AskedMore, IsNumberAfter, ReadStopsAs, StopAs}
 use Rattle.nesthv_top.proofs.GuestReads.{all_bootable, made_names, made_of_files}
@@ -153,7 +153,7 @@ pub config_stopped : (f : Files) (command : FileCommand) (end : LoadEnd) (before
 config_stopped f command end before after stopped =
     let text = text_fault (config_of f command) in
     let accepted = accept (config_of f command) in
-    stopped_first (reading (ask (config_name command) config_most) text ∷ []) (making (fault_by accepted) ∷ testing (guest_fault command accepted) ∷ []) 0 end before after
+    stopped_first (reading (ask (config_name command) config_most) text ∷ []) (making (fault_by accepted) ∷ testing (absent_guest_fault command accepted) ∷ []) 0 end before after
     (one_stopped (ask (config_name command) config_most) text 0 end before after stopped)
 
 -- its text was passed, and it was accepted
@@ -168,18 +168,18 @@ text_passed f command c result a made before after text ok accepted read =
     passed_then (reading (ask (config_name command) config_most) found ∷ []) (making (fault_by (accept (config_of f command))) ∷ []) 0 made made before after after first last
 
 pub config_passed : {A : Type 0} (f : Files) (command : FileCommand) (c : Configuration) (result : Result A ReadEnd) (a : A) (made : ℕ) (before after : Option (List Ask))
-    → TextFault (config_of f command) result → result ≡ Ok a → accept (config_of f command) ≡ Ok c → guest_fault command (Ok c) ≡ None
+    → TextFault (config_of f command) result → result ≡ Ok a → accept (config_of f command) ≡ Ok c → absent_guest_fault command (Ok c) ≡ None
     → (made ≡ 0 + 1) × AskedMore (ask (config_name command) config_most ∷ []) before after → ArePassed (config_steps f command) 0 before made after
 config_passed f command c result a made before after text ok accepted none read =
-    let found = guest_fault command (accept (config_of f command)) in
+    let found = absent_guest_fault command (accept (config_of f command)) in
     passed_then (reading (ask (config_name command) config_most) (text_fault (config_of f command)) ∷ making (fault_by (accept (config_of f command))) ∷ []) (testing found ∷ [])
     0 made made before after after (text_passed f command c result a made before after text ok accepted read) (test_passed found made after (rw accepted none))
 
 pub config_lacks_guest : {A : Type 0} (f : Files) (command : FileCommand) (c : Configuration) (found : ConfigFault) (result : Result A ReadEnd) (a : A) (made : ℕ) (before after : Option (List Ask))
-    → TextFault (config_of f command) result → result ≡ Ok a → accept (config_of f command) ≡ Ok c → guest_fault command (Ok c) ≡ Some found
+    → TextFault (config_of f command) result → result ≡ Ok a → accept (config_of f command) ≡ Ok c → absent_guest_fault command (Ok c) ≡ Some found
     → (made ≡ 0 + 1) × AskedMore (ask (config_name command) config_most ∷ []) before after → StopAs (config_steps f command) 0 before (Refused found) after
 config_lacks_guest f command c found result a made before after text ok accepted lacks read =
-    let last = guest_fault command (accept (config_of f command)) in
+    let last = absent_guest_fault command (accept (config_of f command)) in
     stopped_later (reading (ask (config_name command) config_most) (text_fault (config_of f command)) ∷ making (fault_by (accept (config_of f command))) ∷ []) (testing last ∷ [])
     0 made (Refused found) before after after (text_passed f command c result a made before after text ok accepted read) (test_refused last found made after (rw accepted lacks))
 
@@ -187,9 +187,9 @@ pub config_refused : {A : Type 0} (f : Files) (command : FileCommand) (found : C
     → TextFault (config_of f command) result → result ≡ Err (read_end.Refused found) → accept (config_of f command) ≡ Err found
     → AskedMore (ask (config_name command) config_most ∷ []) before after → StopAs (config_steps f command) 0 before (Refused found) after
 config_refused f command found result before after text refused accepted read = (
-  rw accepted (refused_first (config_of f command) result found (guest_fault command (Err found)) text refused),
+  rw accepted (refused_first (config_of f command) result found (absent_guest_fault command (Err found)) text refused),
   subst (λ asks. AskedMore (ask (config_name command) config_most ∷ asks) before after)
-      (sym (nothing_else (text_fault (config_of f command)) (fault_by (accept (config_of f command))) (guest_fault command (accept (config_of f command))))) read,
+      (sym (nothing_else (text_fault (config_of f command)) (fault_by (accept (config_of f command))) (absent_guest_fault command (accept (config_of f command))))) read,
 )
   where
     nothing_else : (one two three : Option ConfigFault) → asks_unless one (made_of (making two ∷ testing three ∷ [])) ≡ []
@@ -203,7 +203,7 @@ pub config_short : {A : Type 0} (f : Files) (command : FileCommand) (result : Re
     → StopAs (config_steps f command) 0 before (NoMemory 1) after
 config_short f command result before after text short read = record {
   passed = reading (ask (config_name command) config_most) (text_fault (config_of f command)) ∷ [];
-  rest = making (fault_by (accept (config_of f command))) ∷ testing (guest_fault command (accept (config_of f command))) ∷ [];
+  rest = making (fault_by (accept (config_of f command))) ∷ testing (absent_guest_fault command (accept (config_of f command))) ∷ [];
   split = refl;
   fault = rw (no_fault_if_short (config_of f command) result text short) refl;
   asked = read;

@@ -4,7 +4,7 @@ use Rattle.std.proofs.lemmas.Bool.{cases_Bool, eqb-true, eq-eqb, both_ways, le-l
 use Rattle.std.proofs.lemmas.List.{drop_all, get_or-set_other, get_or-set_same, length-set}
 use Rattle.guest_turns.specs.Hosted.{Hosted, is_set, lowest, part_at, KeepsShares}
 use Rattle.guest_turns.specs.Moves.{HasMoved, HasRetired}
-use Rattle.nesthv_top.specs.Moving.{Shares, after_turn, blocks_of, due, kept_turn, moved_by, own_turns, retires, retires_by, shares_of, with_move, with_moves, with_retired, with_retired_if}
+use Rattle.nesthv_top.specs.Moving.{Shares, after_turn, blocks_at, turns_due, kept_turn, moved_by, own_turns, retires, retires_by, shares_of, with_move, with_moves, with_retired, with_retired_if}
 use Rattle.nesthv_top.proofs.MovingTurns.{own_one, own_other}
 use Rattle.nesthv_top.proofs.Turning.{left_is}
 
@@ -13,9 +13,9 @@ pub kept_shares : (old new : Hosted) → KeepsShares old new → shares_of new �
 kept_shares old new keeps = rw (keeps.parts, keeps.free, keeps.retired) refl
 
 moved_shares : (t g : ℕ) (host turned after : Hosted) → KeepsShares host turned → HasMoved turned g (t % length (part_at turned.parts g).blocks) (lowest turned.free) after
-    → with_move g (t % length (blocks_of (shares_of host) g)) (shares_of host) ≡ shares_of after
+    → with_move g (t % length (blocks_at (shares_of host) g)) (shares_of host) ≡ shares_of after
 moved_shares t g host turned after keeps is =
-    ap (λ shares. with_move g (t % length (blocks_of shares g)) shares) (sym (kept_shares host turned keeps)) ∙ rw (is.parts, is.free, is.retired) refl
+    ap (λ shares. with_move g (t % length (blocks_at shares g)) shares) (sym (kept_shares host turned keeps)) ∙ rw (is.parts, is.free, is.retired) refl
 
 retired_shares : (g : ℕ) (old new : Hosted) → HasRetired old g new → with_retired g (shares_of old) ≡ shares_of new
 retired_shares g old new is = rw (is.parts, is.free, is.retired) refl
@@ -34,24 +34,24 @@ not_zero n some = by (cases_Bool (nat_eq n 0))
 
 -- where the guest goes on
 pub shares_go_on : (kept : Option ℕ) (turns : List (ℕ × ℕ)) (t g k : ℕ) (d : ℕ × ℕ) (host turned after : Hosted) → t < length turns → get_or turns t d ≡ (g, k) → KeepsShares host turned
-    → HasMoved turned g (t % length (part_at turned.parts g).blocks) (lowest turned.free) after → due kept g (drop (t + 1) turns) ≢ 0
+    → HasMoved turned g (t % length (part_at turned.parts g).blocks) (lowest turned.free) after → turns_due kept g (drop (t + 1) turns) ≢ 0
     → with_moves kept t (drop t turns) (shares_of host) ≡ with_moves kept (t + 1) (drop (t + 1) turns) (shares_of after)
 shares_go_on kept turns t g k d host turned after inside is keeps move some =
     let later = drop (t + 1) turns in
     next_turn kept turns t g k d (shares_of host) inside is
     ∙ ap (with_moves kept (t + 1) later)
-    (ap (λ last. with_retired_if last g (with_move g (t % length (blocks_of (shares_of host) g)) (shares_of host))) (not_zero (due kept g later) some)
+    (ap (λ last. with_retired_if last g (with_move g (t % length (blocks_at (shares_of host) g)) (shares_of host))) (not_zero (turns_due kept g later) some)
     ∙ moved_shares t g host turned after keeps move)
 
 -- where it retires
 pub shares_retire : (kept : Option ℕ) (turns : List (ℕ × ℕ)) (t g k : ℕ) (d : ℕ × ℕ) (host turned after last : Hosted) → t < length turns → get_or turns t d ≡ (g, k) → KeepsShares host turned
-    → HasMoved turned g (t % length (part_at turned.parts g).blocks) (lowest turned.free) after → HasRetired after g last → due kept g (drop (t + 1) turns) ≡ 0
+    → HasMoved turned g (t % length (part_at turned.parts g).blocks) (lowest turned.free) after → HasRetired after g last → turns_due kept g (drop (t + 1) turns) ≡ 0
     → with_moves kept t (drop t turns) (shares_of host) ≡ with_moves kept (t + 1) (drop (t + 1) turns) (shares_of last)
 shares_retire kept turns t g k d host turned after last inside is keeps move retired none =
     let later = drop (t + 1) turns in
     next_turn kept turns t g k d (shares_of host) inside is
     ∙ ap (with_moves kept (t + 1) later)
-    (ap (λ n. with_retired_if (nat_eq n 0) g (with_move g (t % length (blocks_of (shares_of host) g)) (shares_of host))) none
+    (ap (λ n. with_retired_if (nat_eq n 0) g (with_move g (t % length (blocks_at (shares_of host) g)) (shares_of host))) none
     ∙ ap (with_retired g) (moved_shares t g host turned after keeps move) ∙ retired_shares g after last retired)
 
 -- after all turns
@@ -100,14 +100,14 @@ own_turn : (kept : Option ℕ) (turns : List (ℕ × ℕ)) (t h k : ℕ) (shares
     → (is_set (after_turn kept t h turns shares).retired h || retires kept turns h) ≡ (is_set shares.retired h || retires kept ((h, k) ∷ turns) h)
 own_turn kept turns t h k shares inside =
     let flag = is_set shares.retired h in
-    ap (λ flag. flag || retires kept turns h) (flag_same (nat_eq (due kept h turns) 0) h (with_move h (t % length (blocks_of shares h)) shares) inside)
+    ap (λ flag. flag || retires kept turns h) (flag_same (nat_eq (turns_due kept h turns) 0) h (with_move h (t % length (blocks_at shares h)) shares) inside)
     ∙ none_own (own_turns h turns) (kept_turn kept h) flag
     ∙ ap (λ own. flag || (nat_le 1 own && nat_eq (kept_turn kept h) 0)) (sym (own_one h k turns))
 
 other_turn : (kept : Option ℕ) (turns : List (ℕ × ℕ)) (t g h k : ℕ) (shares : Shares) → h ≢ g
     → (is_set (after_turn kept t g turns shares).retired h || retires kept turns h) ≡ (is_set shares.retired h || retires kept ((g, k) ∷ turns) h)
 other_turn kept turns t g h k shares other =
-    ap (λ flag. flag || retires kept turns h) (flag_other (nat_eq (due kept g turns) 0) g h (with_move g (t % length (blocks_of shares g)) shares) other)
+    ap (λ flag. flag || retires kept turns h) (flag_other (nat_eq (turns_due kept g turns) 0) g h (with_move g (t % length (blocks_at shares g)) shares) other)
     ∙ ap (λ own. is_set shares.retired h || (nat_le 1 own && nat_eq (kept_turn kept h) 0)) (sym (own_other h g k turns (λ e. other (sym e))))
 
 retired_by : (kept : Option ℕ) (turns : List (ℕ × ℕ)) (t : ℕ) (shares : Shares) (h : ℕ) → h < length shares.retired
@@ -119,8 +119,8 @@ retired_by kept [] t shares h inside = sym (or_false (is_set shares.retired h))
     or_false true = refl
     or_false false = refl
 retired_by kept ((g, k) ∷ turns) t shares h inside =
-    let after = with_move g (t % length (blocks_of shares g)) shares in
-    retired_by kept turns (t + 1) (after_turn kept t g turns shares) h (rw (as_many_flags (nat_eq (due kept g turns) 0) g after) inside) ∙ by (cases_Bool (h == g))
+    let after = with_move g (t % length (blocks_at shares g)) shares in
+    retired_by kept turns (t + 1) (after_turn kept t g turns shares) h (rw (as_many_flags (nat_eq (turns_due kept g turns) 0) g after) inside) ∙ by (cases_Bool (h == g))
   where
     by : ((h == g) ≡ true) ⊎ ((h == g) ≡ false)
         → (is_set (after_turn kept t g turns shares).retired h || retires kept turns h) ≡ (is_set shares.retired h || retires kept ((g, k) ∷ turns) h)

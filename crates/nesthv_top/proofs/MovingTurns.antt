@@ -14,7 +14,7 @@ use Rattle.guest_turns.proofs.Updating.{length_updated, updated_other, updated_s
 use Rattle.machine_defs.specs.Machine.{Machine}
 use Rattle.machine_defs.specs.Runs.{run}
 use Rattle.rv64_hart.specs.Counts.{Counts}
-use Rattle.nesthv_top.specs.Moving.{due, kept_turn, own_turns}
+use Rattle.nesthv_top.specs.Moving.{turns_due, kept_turn, own_turns}
 use Rattle.nesthv_top.specs.Runnings.{hosted_as, HaveBlocks}
 use Rattle.nesthv_top.proofs.RetiredMachines.{active_one, active_turn, none_retired, one_retires}
 use Rattle.nesthv_top.proofs.Turning.{IsTurn, TurnsLeft, left_is, left_next}
@@ -49,10 +49,10 @@ own_other g h k turns other =
     not_equal true e = absurd (other (eqb-true h g e))
     not_equal false e = e
 
-due_one : (kept : Option ℕ) (g k : ℕ) (turns : List (ℕ × ℕ)) → due kept g ((g, k) ∷ turns) ≡ due kept g turns + 1
+due_one : (kept : Option ℕ) (g k : ℕ) (turns : List (ℕ × ℕ)) → turns_due kept g ((g, k) ∷ turns) ≡ turns_due kept g turns + 1
 due_one kept g k turns = omega (arith, own_one g k turns)
 
-due_other : (kept : Option ℕ) (g h k : ℕ) (turns : List (ℕ × ℕ)) → h ≢ g → due kept g ((h, k) ∷ turns) ≡ due kept g turns
+due_other : (kept : Option ℕ) (g h k : ℕ) (turns : List (ℕ × ℕ)) → h ≢ g → turns_due kept g ((h, k) ∷ turns) ≡ turns_due kept g turns
 due_other kept g h k turns other = omega (arith, own_other g h k turns other)
 
 -- what holds after the first t turns
@@ -61,8 +61,8 @@ pub record Moving (kept : Option ℕ) (turns : List (ℕ × ℕ)) (first : List 
   pub turns_left : TurnsLeft turns first began t (lone turns first t) tally
   pub flags : length host.retired ≡ 16
   pub size : length left ≡ 16
-  pub own : (g : ℕ) → g < 16 → get_or left g 0 ≡ due kept g (drop t turns)
-  pub gone : (g : ℕ) → is_set host.retired g ≡ true → due kept g (drop t turns) ≡ 0
+  pub own : (g : ℕ) → g < 16 → get_or left g 0 ≡ turns_due kept g (drop t turns)
+  pub gone : (g : ℕ) → is_set host.retired g ≡ true → turns_due kept g (drop t turns) ≡ 0
   pub blocks : HaveBlocks host
   pub free : 1 ≤ count_set host.free
   pub counted : moves ≡ moved + t
@@ -74,9 +74,9 @@ pub record Between (kept : Option ℕ) (turns : List (ℕ × ℕ)) (first : List
   pub flags : length host.retired ≡ 16
   pub size : length left ≡ 16
   pub active : is_set host.retired g ≡ false
-  pub one : get_or left g 0 ≡ due kept g (drop (t + 1) turns) + 1
-  pub others : (h : ℕ) → h < 16 → h ≢ g → get_or left h 0 ≡ due kept h (drop (t + 1) turns)
-  pub gone : (h : ℕ) → is_set host.retired h ≡ true → due kept h (drop (t + 1) turns) ≡ 0
+  pub one : get_or left g 0 ≡ turns_due kept g (drop (t + 1) turns) + 1
+  pub others : (h : ℕ) → h < 16 → h ≢ g → get_or left h 0 ≡ turns_due kept h (drop (t + 1) turns)
+  pub gone : (h : ℕ) → is_set host.retired h ≡ true → turns_due kept h (drop (t + 1) turns) ≡ 0
   pub blocks : HaveBlocks host
   pub free : 1 ≤ count_set host.free
   pub counted : moves ≡ moved + (t + 1)
@@ -86,8 +86,8 @@ pub next_active : (kept : Option ℕ) (turns : List (ℕ × ℕ)) (first : List 
     → t < length turns → get_or turns t d ≡ (g, k) → Moving kept turns first began moved t host left tally moves → is_set host.retired g ≡ false
 next_active kept turns first began moved t g k host left tally moves d inside is inv = by (cases_Bool (is_set host.retired g))
   where
-    more : due kept g (drop t turns) ≡ due kept g (drop (t + 1) turns) + 1
-    more = ap (due kept g) (left_is turns t g k d inside is) ∙ due_one kept g k (drop (t + 1) turns)
+    more : turns_due kept g (drop t turns) ≡ turns_due kept g (drop (t + 1) turns) + 1
+    more = ap (turns_due kept g) (left_is turns t g k d inside is) ∙ due_one kept g k (drop (t + 1) turns)
 
     by : (is_set host.retired g ≡ true) ⊎ (is_set host.retired g ≡ false) → is_set host.retired g ≡ false
     by (inl retired) = absurd (omega (arith, inv.gone g retired, more))
@@ -148,23 +148,23 @@ turned_and_moved kept turns first began moved t g k taken block to host turned a
       flags = ap length flags ∙ inv.flags;
       size = inv.size;
       active = rw flags active;
-      one = inv.own g guest ∙ ap (due kept g) left_now ∙ due_one kept g k (drop (t + 1) turns);
-      others = λ h few other. inv.own h few ∙ ap (due kept h) left_now ∙ due_other kept h g k (drop (t + 1) turns) (λ e. other (sym e));
+      one = inv.own g guest ∙ ap (turns_due kept g) left_now ∙ due_one kept g k (drop (t + 1) turns);
+      others = λ h few other. inv.own h few ∙ ap (turns_due kept h) left_now ∙ due_other kept h g k (drop (t + 1) turns) (λ e. other (sym e));
       gone = λ h is_gone.
           let before = inv.gone h (rw flags at is_gone) in
           let apart : g ≢ h = λ e. both_ways (is_set host.retired g) active (rw (e, ← flags) is_gone) in
-          sym (due_other kept h g k (drop (t + 1) turns) apart) ∙ ap (due kept h) (sym left_now) ∙ before;
+          sym (due_other kept h g k (drop (t + 1) turns) apart) ∙ ap (turns_due kept h) (sym left_now) ∙ before;
       blocks = moved_blocks turned after g block to move (turned_blocks host turned (ap length turn.machines ∙ length_updated g (λ m. run m k) host.machines) parts retired inv.blocks);
       free = omega (arith, move.count, ap count_set free, inv.free);
       counted = omega (arith, raised, inv.counted);
     }
 
 -- the turns that are counted as left
-own_now : (kept : Option ℕ) (left : List ℕ) (g h : ℕ) (turns : List (ℕ × ℕ)) → g < 16 → length left ≡ 16 → get_or left g 0 ≡ due kept g turns + 1
-    → (h ≢ g → get_or left h 0 ≡ due kept h turns) → get_or (set left g (get_or left g 0 - 1)) h 0 ≡ due kept h turns
+own_now : (kept : Option ℕ) (left : List ℕ) (g h : ℕ) (turns : List (ℕ × ℕ)) → g < 16 → length left ≡ 16 → get_or left g 0 ≡ turns_due kept g turns + 1
+    → (h ≢ g → get_or left h 0 ≡ turns_due kept h turns) → get_or (set left g (get_or left g 0 - 1)) h 0 ≡ turns_due kept h turns
 own_now kept left g h turns few size one others = by (cases_Bool (h == g))
   where
-    by : ((h == g) ≡ true) ⊎ ((h == g) ≡ false) → get_or (set left g (get_or left g 0 - 1)) h 0 ≡ due kept h turns
+    by : ((h == g) ≡ true) ⊎ ((h == g) ≡ false) → get_or (set left g (get_or left g 0 - 1)) h 0 ≡ turns_due kept h turns
     by (inl same) =
         let e : h ≡ g = eqb-true h g same in
         rw e (get_or-set_same left g (get_or left g 0 - 1) 0 (omega (arith, few, size)) ∙ omega (arith, one))
@@ -173,7 +173,7 @@ own_now kept left g h turns few size one others = by (cases_Bool (h == g))
         get_or-set_other left g h (get_or left g 0 - 1) 0 apart ∙ others apart
 
 pub left_now : (kept : Option ℕ) (turns : List (ℕ × ℕ)) (first : List Machine) (began : Counts) (moved t g : ℕ) (host : Hosted) (left : List ℕ) (tally : Counts) (moves : ℕ)
-    → g < 16 → Between kept turns first began moved t g host left tally moves → get_or (set left g (get_or left g 0 - 1)) g 0 ≡ due kept g (drop (t + 1) turns)
+    → g < 16 → Between kept turns first began moved t g host left tally moves → get_or (set left g (get_or left g 0 - 1)) g 0 ≡ turns_due kept g (drop (t + 1) turns)
 left_now kept turns first began moved t g host left tally moves guest between =
     own_now kept left g g (drop (t + 1) turns) guest between.size between.one (λ other. absurd (other refl))
 
@@ -221,10 +221,10 @@ retires kept turns first began moved t g host after left tally moves guest betwe
       counted = between.counted;
     }
   where
-    by : (h : ℕ) → ((g == h) ≡ true) ⊎ ((g == h) ≡ false) → is_set after.retired h ≡ true → due kept h (drop (t + 1) turns) ≡ 0
+    by : (h : ℕ) → ((g == h) ≡ true) ⊎ ((g == h) ≡ false) → is_set after.retired h ≡ true → turns_due kept h (drop (t + 1) turns) ≡ 0
     by h (inl same) is_gone =
         let e : g ≡ h = eqb-true g h same in
-        let none : due kept g (drop (t + 1) turns) ≡ 0 = sym (left_now kept turns first began moved t g host left tally moves guest between) ∙ last in rw e at none
+        let none : turns_due kept g (drop (t + 1) turns) ≡ 0 = sym (left_now kept turns first began moved t g host left tally moves guest between) ∙ last in rw e at none
     by h (inr other) is_gone =
         let apart : h ≢ g = λ e. both_ways (g == h) other (rw e (eq-eqb g g refl)) in
         between.gone h (sym (get_or-set_other host.retired g h true false apart) ∙ ap (λ flags. is_set flags h) (sym is.retired) ∙ is_gone)
@@ -236,7 +236,7 @@ moved_all kept turns first began moved t host left tally moves end inv = inv.mac
 
 -- nothing has moved yet
 pub moving_begins : (kept : Option ℕ) (turns : List (ℕ × ℕ)) (began : Counts) (moved : ℕ) (host : Hosted) (left : List ℕ) → length host.retired ≡ 16 → length left ≡ 16
-    → ((g : ℕ) → g < 16 → get_or left g 0 ≡ due kept g turns) → ((g : ℕ) → is_set host.retired g ≡ false) → TurnsLeft turns host.machines began 0 host.machines began
+    → ((g : ℕ) → g < 16 → get_or left g 0 ≡ turns_due kept g turns) → ((g : ℕ) → is_set host.retired g ≡ false) → TurnsLeft turns host.machines began 0 host.machines began
     → HaveBlocks host → 1 ≤ count_set host.free → Moving kept turns host.machines began moved 0 host left began moved
 moving_begins kept turns began moved host left flags size own active begin blocks free = record {
   machines = sym (none_retired host.retired host.machines active);
@@ -265,9 +265,9 @@ left_before turns first began fresh = record {
 }
 
 -- the guest whose turn it is has a turn left
-pub one_left : (kept : Option ℕ) (turns : List (ℕ × ℕ)) (t g k : ℕ) (left : List ℕ) (d : ℕ × ℕ) → t < length turns → get_or turns t d ≡ (g, k) → get_or left g 0 ≡ due kept g (drop t turns) → 1 ≤ get_or left g 0
+pub one_left : (kept : Option ℕ) (turns : List (ℕ × ℕ)) (t g k : ℕ) (left : List ℕ) (d : ℕ × ℕ) → t < length turns → get_or turns t d ≡ (g, k) → get_or left g 0 ≡ turns_due kept g (drop t turns) → 1 ≤ get_or left g 0
 one_left kept turns t g k left d inside is own =
-    let one = ap (due kept g) (left_is turns t g k d inside is) ∙ due_one kept g k (drop (t + 1) turns) in
+    let one = ap (turns_due kept g) (left_is turns t g k d inside is) ∙ due_one kept g k (drop (t + 1) turns) in
     omega (arith, own, one)
 
 -- the guest that is kept has not retired

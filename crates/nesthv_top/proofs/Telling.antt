@@ -12,15 +12,15 @@ use Rattle.outside.specs.Pieces.{Appends}
 use Rattle.run_config.specs.declared.faults.ConfigFault.{ConfigFault}
 use Rattle.nesthv_top.specs.declared.ends.Ended.{Ended}
 use Rattle.nesthv_top.specs.declared.ends.Ended.TheVariants.{Done, Differs, NoCommand, Refused, ReadFault, WriteFault, NoMemory}
-use Rattle.nesthv_top.specs.Endings.{HasPlan, IfRefusedWith, IfRun, IfSave, IsFor, IsOfCommand, IsRefusal, IsReplay, ReadsFrom, SaysOfCause, SaysOfOut, SaysOfReads, SaysOfSaved, Tells, WithPlan}
+use Rattle.nesthv_top.specs.Endings.{HasPlan, IfRefusedWith, IfRun, IfSave, IsEndFor, IsOfCommand, IsRefusal, IsReplay, ReadsFrom, SaysOfCause, SaysOfOut, SaysOfReads, SaysOfSaved, Tells, WithPlan}
 use Rattle.run_config.specs.Accept.{accept}
 use Rattle.run_config.specs.Configurations.{Configuration}
 use Rattle.nesthv_top.specs.Contents.{config_of}
-use Rattle.nesthv_top.specs.Plans.{AllRunAsWritten, IsResumable, Plan, fault_of, plan_if, plan_of, planned}
+use Rattle.nesthv_top.specs.Plans.{AllRunAsWritten, IsResumable, Plan, command_fault, plan_if, plan_of, planned}
 use Rattle.nesthv_top.specs.Reads.{file_steps}
 use Rattle.nesthv_top.specs.Steps.{fault_in}
 use Rattle.nesthv_top.specs.Statuses.{ArePlain, IsDone, IsNoCommand, status_of, verdict_status}
-use Rattle.nesthv_top.specs.Texts.{found_of, found_with, text_of}
+use Rattle.nesthv_top.specs.Texts.{found_of, verdict_with, text_of}
 
 not_done : {P : Type 0} (n : ℕ) → 1 ≤ n → n ≤ 5 → IsDone n → P
 not_done n some few (inl e) = absurd (omega (arith, e, some))
@@ -90,7 +90,7 @@ one_of_both : (f : Files) (fault : Option ConfigFault) (accepted : Result Config
 one_of_both f None accepted some fault = cc
 one_of_both f (Some found) accepted some fault = cc
 
-pub not_both : (f : Files) (command : Option Command) → IsSome (plan_of f command) → IsSome (fault_of f command) → ⊥
+pub not_both : (f : Files) (command : Option Command) → IsSome (plan_of f command) → IsSome (command_fault f command) → ⊥
 unfolding planned
 not_both f (Some (OnFiles command)) some fault = one_of_both f (fault_in (file_steps f command)) (accept (config_of f command)) some fault
 not_both f (Some (Work seed size)) some fault = cc
@@ -110,7 +110,7 @@ known o a is = rw is refl
 -- when status 2 comes
 refuses : {X Y : Type 0} (S : stores.Ghosts X) (O : sinks.Ghosts Y) (f : Files) (words : List (List ℕ)) (ended : Ended) (store store' : X) (out out' : Y)
     → ReadsFrom (S.files store) (command_of words) f → SaysOfCause S O words ended store store' out out' → SaysOfOut O (S.files store) (command_of words) ended out out'
-    → IsSome (fault_of f (command_of words)) → (status_of ended ≡ 2) ⊎ (status_of ended ≡ 3) ⊎ (status_of ended ≡ 5)
+    → IsSome (command_fault f (command_of words)) → (status_of ended ≡ 2) ⊎ (status_of ended ≡ 3) ⊎ (status_of ended ≡ 5)
 refuses S O f words Done store store' out out' told cause says fault = absurd (not_both f (command_of words) (has_plan f (command_of words) _ (says.machines f told)) fault)
 refuses S O f words Differs store store' out out' told cause says fault = absurd (not_both f (command_of words) (has_plan f (command_of words) _ (says.machines f told)) fault)
 refuses S O f words NoCommand store store' out out' told cause says fault = let none = rw cause.words at fault in cc
@@ -119,12 +119,12 @@ refuses S O f words (ReadFault n) store store' out out' told cause says fault = 
 refuses S O f words WriteFault store store' out out' told cause says fault = absurd (not_both f (command_of words) (has_plan f (command_of words) _ (says.machines f told)) fault)
 refuses S O f words (NoMemory n) store store' out out' told cause says fault = inr (inr refl)
 
-pub has_fault : (f : Files) (command : Option Command) (ended : Ended) → IfRefusedWith ended (λ found. fault_of f command ≡ Some found) → status_of ended ≡ 2
-    → IsSome (fault_of f command)
+pub has_fault : (f : Files) (command : Option Command) (ended : Ended) → IfRefusedWith ended (λ found. command_fault f command ≡ Some found) → status_of ended ≡ 2
+    → IsSome (command_fault f command)
 has_fault f command Done is e = absurd (omega (arith, e))
 has_fault f command Differs is e = absurd (omega (arith, e))
 has_fault f command NoCommand is e = absurd (omega (arith, e))
-has_fault f command (Refused found) is e = known (fault_of f command) found is
+has_fault f command (Refused found) is e = known (command_fault f command) found is
 has_fault f command (ReadFault n) is e = absurd (omega (arith, e))
 has_fault f command WriteFault is e = absurd (omega (arith, e))
 has_fault f command (NoMemory n) is e = absurd (omega (arith, e))
@@ -145,7 +145,7 @@ complete S O f words Done store store' out out' told cause reads plan read write
 complete S O f words Differs store store' out out' told cause reads plan read write = inl (inr refl)
 complete S O f words NoCommand store store' out out' told cause reads plan read write = let none = rw cause.words at plan in cc
 complete S O f words (Refused found) store store' out out' told cause reads plan read write =
-    absurd (not_both f (command_of words) plan (known (fault_of f (command_of words)) found (reads.fault f told)))
+    absurd (not_both f (command_of words) plan (known (command_fault f (command_of words)) found (reads.fault f told)))
 complete S O f words (ReadFault n) store store' out out' told cause reads plan read write = absurd (read cause.read)
 complete S O f words WriteFault store store' out out' told cause reads plan read write = absurd (write cause.write)
 complete S O f words (NoMemory n) store store' out out' told cause reads plan read write = inr refl
@@ -161,14 +161,14 @@ plain_command [] some = cc
 plain_command (name ∷ words) some = record { some = omega arith; plain = all_plain (list_all is_plain words) (asked_by words) some }
 
 -- a replay alone finds a difference
-pub differing : (command : FileCommand) (stored : List ℕ) (plan : Plan) (n : ℕ) → verdict.Differs n ≡ found_with command stored plan → IsReplay (Some (OnFiles command))
+pub differing : (command : FileCommand) (stored : List ℕ) (plan : Plan) (n : ℕ) → verdict.Differs n ≡ verdict_with command stored plan → IsReplay (Some (OnFiles command))
 differing (Run config) stored plan n is = cc
 differing (Replay config report) stored plan n is = (config, report, refl)
 differing (Check config) stored plan n is = cc
 differing (Save config guest) stored plan n is = cc
 
 -- why a command ended so
-pub is_for : (words : List (List ℕ)) (command : Command) (ended : Ended) → command_of words ≡ Some command → IsOfCommand command ended → IsFor ended words
+pub is_for : (words : List (List ℕ)) (command : Command) (ended : Ended) → command_of words ≡ Some command → IsOfCommand command ended → IsEndFor ended words
 is_for words command Done are is = known (command_of words) command are
 is_for words command Differs are is = subst IsReplay (sym are) is
 is_for words command NoCommand are is = absurd is
@@ -179,7 +179,7 @@ is_for words command (NoMemory zero) are is = plain_command words (known (comman
 is_for words command (NoMemory (suc n)) are is = known (command_of words) command are
 
 -- when status 1 comes
-none_only : (words : List (List ℕ)) (ended : Ended) → IsFor ended words → status_of ended ≡ 1 → command_of words ≡ None
+none_only : (words : List (List ℕ)) (ended : Ended) → IsEndFor ended words → status_of ended ≡ 1 → command_of words ≡ None
 none_only words Done is e = absurd (omega (arith, e))
 none_only words Differs is e = absurd (omega (arith, e))
 none_only words NoCommand is e = is
@@ -195,7 +195,7 @@ not_none None some none = cc
 not_replay : {P : Type 0} (o : Option Command) → IsReplay o → o ≡ None → P
 not_replay o (config, report, is) none = cc
 
-none_always : (words : List (List ℕ)) (ended : Ended) → IsFor ended words → command_of words ≡ None → (status_of ended ≡ 1) ⊎ ((status_of ended ≡ 5) × ArePlain words)
+none_always : (words : List (List ℕ)) (ended : Ended) → IsEndFor ended words → command_of words ≡ None → (status_of ended ≡ 1) ⊎ ((status_of ended ≡ 5) × ArePlain words)
 none_always words Done is none = not_none (command_of words) is none
 none_always words Differs is none = not_replay (command_of words) is none
 none_always words NoCommand is none = inl refl
@@ -205,11 +205,11 @@ none_always words WriteFault is none = not_none (command_of words) is none
 none_always words (NoMemory zero) is none = inr (refl, is)
 none_always words (NoMemory (suc n)) is none = not_none (command_of words) is none
 
-pub no_command : (words : List (List ℕ)) (ended : Ended) → IsFor ended words → IsNoCommand words (status_of ended)
+pub no_command : (words : List (List ℕ)) (ended : Ended) → IsEndFor ended words → IsNoCommand words (status_of ended)
 no_command words ended is = record { only = none_only words ended is; always = none_always words ended is }
 
 -- when status 6 comes
-pub replayed : (words : List (List ℕ)) (ended : Ended) → IsFor ended words → status_of ended ≡ 6 → IsReplay (command_of words)
+pub replayed : (words : List (List ℕ)) (ended : Ended) → IsEndFor ended words → status_of ended ≡ 6 → IsReplay (command_of words)
 replayed words Done is e = absurd (omega (arith, e))
 replayed words Differs is e = is
 replayed words NoCommand is e = absurd (omega (arith, e))

@@ -3,7 +3,7 @@
 use Rattle.std.specs.Prelude.{ℕ, ◌+◌, ◌*◌, List, [], map, unwrap_or}
 use Rattle.arch_defs.specs.Memory.{block_size}
 use Rattle.command_line.specs.Commands.{FileCommand, Run, Replay, Check, Save}
-use Rattle.guest_save.specs.Saves.{SavedMachine, saved_in}
+use Rattle.guest_save.specs.Saves.{SavedMachine, saved_machine_in}
 use Rattle.guest_specs.specs.declared.guests.GuestSpec.{GuestSpec}
 use Rattle.guest_turns.specs.declared.sources.Source.{Source}
 use Rattle.guest_turns.specs.declared.sources.Source.TheVariants as source
@@ -82,7 +82,7 @@ abbrev pub saved_of : Files → List ℕ → List ℕ
 saved_of files name = content files name saved_most
 
 abbrev pub resumed_of : Files → List ℕ → SavedMachine
-resumed_of files name = saved_in (saved_of files name)
+resumed_of files name = saved_machine_in (saved_of files name)
 
 -- where a guest of this name comes from: it is fresh, or goes on from its saved machine
 abbrev pub source_by : Files → List ℕ → Origin → Source

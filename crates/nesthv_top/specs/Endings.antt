@@ -16,7 +16,7 @@ use Rattle.nesthv_top.specs.declared.ends.Ended.{Ended}
 use Rattle.nesthv_top.specs.declared.ends.Ended.TheVariants.{Done, Differs, NoCommand, Refused, ReadFault, WriteFault, NoMemory}
 use Rattle.nesthv_top.specs.Lines.{usage_line, configuration_line, read_line, write_line, memory_line}
 use Rattle.run_config.specs.declared.faults.ConfigFault.{ConfigFault}
-use Rattle.nesthv_top.specs.Plans.{AllRunAsWritten, IsResumable, Plan, fault_of, plan_of, run_of, entries_of, steps_of, events_of}
+use Rattle.nesthv_top.specs.Plans.{AllRunAsWritten, IsResumable, Plan, command_fault, plan_of, run_of, planned_entries, steps_of, events_of}
 use Rattle.nesthv_top.specs.Runnings.{moves_for}
 use Rattle.nesthv_top.specs.Reads.{asks_of, most_reads, steps_for, BeginsWithConfig}
 use Rattle.nesthv_top.specs.Steps.{AskedMore, AreAnswered, IsFailed, IsLastFailed, IsWanting}
@@ -46,9 +46,9 @@ HasPlan told command P = IfKnown told command (λ files. WithPlan files command 
 -- the status is 2 only where the command has a first fault; and where it has one, the status is 2, unless a
 -- read failed or memory ran out
 pub record IsRefusal (told : Option Files) (command : Option Command) (status : ℕ) : Type 0 where
-  pub only : IfKnown told command (λ files. status ≡ 2 → IsSome (fault_of files command))
+  pub only : IfKnown told command (λ files. status ≡ 2 → IsSome (command_fault files command))
   pub always : IfKnown told command (λ files.
-      IsSome (fault_of files command) → (status ≡ 2) ⊎ (status ≡ 3) ⊎ (status ≡ 5))
+      IsSome (command_fault files command) → (status ≡ 2) ⊎ (status ≡ 3) ⊎ (status ≡ 5))
 
 -- facts for an end of one kind
 abbrev pub IfRefusedWith : Ended → (ConfigFault → Type 0) → Type 0
@@ -69,11 +69,11 @@ IsReplay command = (config : List ℕ) × (report : List ℕ) × (command ≡ So
 
 -- whether the words are a command, which is a replay where a difference was found; memory may have run
 -- out for reading them only where they are plain
-abbrev pub IsFor : Ended → List (List ℕ) → Type 0
-IsFor NoCommand words = command_of words ≡ None
-IsFor Differs words = IsReplay (command_of words)
-IsFor (NoMemory zero) words = ArePlain words
-IsFor other words = IsSome (command_of words)
+abbrev pub IsEndFor : Ended → List (List ℕ) → Type 0
+IsEndFor NoCommand words = command_of words ≡ None
+IsEndFor Differs words = IsReplay (command_of words)
+IsEndFor (NoMemory zero) words = ArePlain words
+IsEndFor other words = IsSome (command_of words)
 
 -- an end that a command may have
 abbrev pub IsOfCommand : Command → Ended → Type 0
@@ -84,7 +84,7 @@ IsOfCommand command other = ⊤
 -- why a command ended so, by its words and by the counts of faults
 pub record SaysOfCause {X Y : Type 0} (S : stores.Ghosts X) (O : sinks.Ghosts Y) (said : List (List ℕ))
     (ended : Ended) (store store' : X) (out out' : Y) : Type 0 where
-  pub words : IsFor ended said
+  pub words : IsEndFor ended said
   pub read : IfReadFault ended (λ n. Rose (S.faults store) (S.faults store'))
   pub write : IfWriteFault ended (Rose (O.faults out) (O.faults out'))
 
@@ -118,7 +118,7 @@ pub record SaysOfReads {X : Type 0} (S : stores.Ghosts X) (command : Option Comm
   pub answers : AreAnsweredBy ended (S.asked old) (S.asked new)
   pub number : IfReadFault ended (λ n. (1 ≤ n) × (n ≤ most_reads))
   pub fault : IfKnown (S.files old) command (λ files.
-      IfRefusedWith ended (λ found. fault_of files command ≡ Some found))
+      IfRefusedWith ended (λ found. command_fault files command ≡ Some found))
   pub stays : S.files new ≡ S.files old
   pub count : S.faults old ≤ S.faults new
 
@@ -224,7 +224,7 @@ pub record SaysOfAccount (told : Option Files) (command : Option Command) (ended
   pub taken : old.taken ≤ new.taken
   pub bound : GrewBy (2 ^ 61) (2 ^ 52) old new
   pub most : IfKnown told command (λ files.
-      GrewBy (entries_of (run_of files command)) (steps_of (run_of files command)) old new)
+      GrewBy (planned_entries (run_of files command)) (steps_of (run_of files command)) old new)
 
 -- a run to its end moved a block after each turn, where there are spare blocks
 abbrev pub MovesIfRun : Option Plan → Ended → ℕ → ℕ → Type 0

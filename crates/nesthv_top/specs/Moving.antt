@@ -19,8 +19,8 @@ kept_turn None g = 0
 kept_turn (Some kept) g = if kept == g then 1 else 0
 
 -- the turns of a guest that come, and one more where it is kept
-abbrev pub due : Option ℕ → ℕ → List (ℕ × ℕ) → ℕ
-due kept g turns = own_turns g turns + kept_turn kept g
+abbrev pub turns_due : Option ℕ → ℕ → List (ℕ × ℕ) → ℕ
+turns_due kept g turns = own_turns g turns + kept_turn kept g
 
 -- who has what of machine memory: the part of each guest, which blocks are free, and which guests have
 -- retired
@@ -32,14 +32,14 @@ pub record Shares : Type 0 where
 abbrev pub shares_of : Hosted → Shares
 shares_of host = record { parts = host.parts; free = host.free; retired = host.retired }
 
-abbrev pub blocks_of : Shares → ℕ → List ℕ
-blocks_of shares g = (part_at shares.parts g).blocks
+abbrev pub blocks_at : Shares → ℕ → List ℕ
+blocks_at shares g = (part_at shares.parts g).blocks
 
 -- a block of the guest g has moved: it is the block that was the lowest free one, and is free in its place
 abbrev pub with_move : ℕ → ℕ → Shares → Shares
 with_move g block shares = record {
   parts = updated g (λ part. with_block part block (lowest shares.free)) shares.parts;
-  free = with_free (slice_index (blocks_of shares g) block ∷ [])
+  free = with_free (slice_index (blocks_at shares g) block ∷ [])
       (slice_set shares.free (lowest shares.free) false);
   retired = shares.retired;
 }
@@ -48,7 +48,7 @@ with_move g block shares = record {
 abbrev pub with_retired : ℕ → Shares → Shares
 with_retired g shares = record {
   parts = updated g without_blocks shares.parts;
-  free = with_free (blocks_of shares g) shares.free;
+  free = with_free (blocks_at shares g) shares.free;
   retired = slice_set shares.retired g true;
 }
 
@@ -60,7 +60,7 @@ with_retired_if false g shares = shares
 -- where none of the turns that come is its own, unless it is kept (own)
 abbrev pub after_turn : Option ℕ → ℕ → ℕ → List (ℕ × ℕ) → Shares → Shares
 after_turn kept t g later shares =
-    with_retired_if (nat_eq (due kept g later) 0) g (with_move g (t % length (blocks_of shares g)) shares)
+    with_retired_if (nat_eq (turns_due kept g later) 0) g (with_move g (t % length (blocks_at shares g)) shares)
 
 -- after turns in order, the first of which is turn t
 unfoldable pub with_moves : Option ℕ → ℕ → List (ℕ × ℕ) → Shares → Shares

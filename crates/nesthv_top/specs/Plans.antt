@@ -66,8 +66,8 @@ plan_of files (Some (OnFiles command)) = planned files command
 plan_of files (Some (Work seed size)) = Some (work_plan seed size)
 plan_of files None = None
 
-abbrev pub fault_of : Files → Option Command → Option ConfigFault
-fault_of files command = fault_in (steps_for files command)
+abbrev pub command_fault : Files → Option Command → Option ConfigFault
+command_fault files command = fault_in (steps_for files command)
 
 -- the plan that a command runs: a check runs none
 abbrev pub run_of : Files → Option Command → Option Plan
@@ -122,9 +122,9 @@ steps_of None = 0
 abbrev pub plan_entries : Plan → ℕ
 plan_entries plan = entries_for (machines_of plan) plan.turns
 
-abbrev pub entries_of : Option Plan → ℕ
-entries_of (Some plan) = plan_entries plan
-entries_of None = 0
+abbrev pub planned_entries : Option Plan → ℕ
+planned_entries (Some plan) = plan_entries plan
+planned_entries None = 0
 
 -- each cached translation of the second stage that the next step may use is fresh, of a guest that goes on
 -- from a saved machine where this is a state of a run that began without any

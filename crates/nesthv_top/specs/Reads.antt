@@ -50,9 +50,9 @@ fault_by (Ok c) = None
 fault_by (Err found) = Some found
 
 -- the fault of a command that saves a guest which a configuration does not have: the guest's number (own)
-abbrev pub guest_fault : FileCommand → Result Configuration ConfigFault → Option ConfigFault
-guest_fault (Save config guest) (Ok c) = unless (nat_le (guest + 1) (length c.guests)) (fault.no_guest guest)
-guest_fault command accepted = None
+abbrev pub absent_guest_fault : FileCommand → Result Configuration ConfigFault → Option ConfigFault
+absent_guest_fault (Save config guest) (Ok c) = unless (nat_le (guest + 1) (length c.guests)) (fault.no_guest guest)
+absent_guest_fault command accepted = None
 
 -- the configuration: it is read and tested as text, then as a configuration, and then whether it has the
 -- guest that is to be saved
@@ -60,7 +60,7 @@ abbrev pub config_steps : Files → FileCommand → List Step
 config_steps files command =
     reading (ask (config_name command) config_most) (text_fault (config_of files command))
     ∷ making (fault_by (accept (config_of files command)))
-    ∷ testing (guest_fault command (accept (config_of files command)))
+    ∷ testing (absent_guest_fault command (accept (config_of files command)))
     ∷ []
 
 -- the fault of an image that is longer than its guest's RAM: the guest's number, and how many bytes were read

@@ -11,7 +11,7 @@ use Rattle.run_config.specs.Configurations.{Configuration, IsWithinLimits}
 use Rattle.nesthv_top.specs.declared.ends.Job.{Job}
 use Rattle.nesthv_top.specs.declared.ends.Loaded.{Loaded}
 use Rattle.nesthv_top.specs.Plans.{Plan, name_of_source}
-use Rattle.nesthv_top.specs.Reads.{guest_fault}
+use Rattle.nesthv_top.specs.Reads.{absent_guest_fault}
 
 abbrev pub plan_with : List Source → List (ℕ × ℕ) → ℕ → Plan
 plan_with sources turns spare = record { sources = sources; turns = turns; spare = spare }
@@ -39,4 +39,4 @@ pub record IsJob (job : Job) : Type 0 where
 
 -- a configuration has the guest that a command saves, if it saves one
 abbrev pub HasGuest : FileCommand → Configuration → Type 0
-HasGuest command c = guest_fault command (Ok c) ≡ None
+HasGuest command c = absent_guest_fault command (Ok c) ≡ None

@@ -44,15 +44,15 @@ verdict_line (Differs n) = codes "differs at " ++ decimal n ++ codes "\n"
 
 -- what a command on files finds with this stored report: a replay whether the report differs from it, the
 -- others nothing that differs
-abbrev pub found_with : FileCommand → List ℕ → Plan → Verdict
-found_with (Run config) stored plan = Same
-found_with (Replay config report) stored plan = verdict_of stored (report_of plan)
-found_with (Check config) stored plan = Same
-found_with (Save config guest) stored plan = Same
+abbrev pub verdict_with : FileCommand → List ℕ → Plan → Verdict
+verdict_with (Run config) stored plan = Same
+verdict_with (Replay config report) stored plan = verdict_of stored (report_of plan)
+verdict_with (Check config) stored plan = Same
+verdict_with (Save config guest) stored plan = Same
 
 -- the same of any command
 abbrev pub found_of : Files → Command → Plan → Verdict
-found_of files (OnFiles command) plan = found_with command (stored_of files command) plan
+found_of files (OnFiles command) plan = verdict_with command (stored_of files command) plan
 found_of files (Work seed size) plan = Same
 
 -- what a command on files writes: a run the report, a replay its verdict, a check what the guests need, and a

@@ -18,7 +18,7 @@ ghost use Rattle.nesthv_top.specs.Endings.{IsFirstRead, SaysOfReads};
 ghost use Rattle.nesthv_top.specs.Ends.{ended_of, IfReadFailed, Leaves};
 ghost use Rattle.nesthv_top.specs.Loads.{all_read_for, frames_read, fresh_in, fresh_read, read_for, source_with, sources_with, AreFitting, AreGood, FitsOrigin, IsAllRead, IsFitting, IsFreshFitting, IsTested};
 ghost use Rattle.nesthv_top.specs.Plans.{planned};
-ghost use Rattle.nesthv_top.specs.Reads.{config_steps, file_steps, frames_fault, fresh_steps, guest_fault, guest_steps, guests_steps, image_step, input_steps, report_steps, saved_steps};
+ghost use Rattle.nesthv_top.specs.Reads.{config_steps, file_steps, frames_fault, fresh_steps, absent_guest_fault, guest_steps, guests_steps, image_step, input_steps, report_steps, saved_steps};
 ghost use Rattle.nesthv_top.specs.Seen.{loaded_plan, HasGuest, IsJob};
 ghost use Rattle.nesthv_top.specs.Steps.{AreAnswered, ArePassed, EndAs};
 
@@ -174,7 +174,7 @@ fn read_config<S: Store>(
 
 // The fault of a command that saves a guest which the configuration does not have.
 fn guest_fault(request: FileRequest<'_>, config: &Config) -> Option<ConfigFault>
-    ensures { result ≡ guest_fault (file_command_seen request.entry) (Ok config.now) }
+    ensures { result ≡ absent_guest_fault (file_command_seen request.entry) (Ok config.now) }
 {
     match request {
         FileRequest::Save { guest, .. } if guest as usize >= config.guests().len() => {

@@ -8,7 +8,7 @@ ghost use Rattle.nesthv_top.specs.Endings.{IfReadFault, IfRun, IfWriteFault, IfS
 ghost use Rattle.nesthv_top.specs.Plans.{AllRunAsWritten, IsResumable};
 ghost use Rattle.nesthv_top.specs.Runnings.{HasRoomForCommand, IsAccountFor, IsMovedFor};
 ghost use Rattle.nesthv_top.specs.Seen.{plan_seen, HasGuest, IsJob};
-ghost use Rattle.nesthv_top.specs.Texts.{found_with, text_with};
+ghost use Rattle.nesthv_top.specs.Texts.{verdict_with, text_with};
 ghost use Rattle.nesthv_top.specs.Written.{Writes};
 
 use crate::checking::check;
@@ -112,7 +112,7 @@ fn perform<O: Sink>(
     requires moves { moves.old ≤ 2 ^ 61 }
 
     ensures found { IfOk result (λ found.
-        found ≡ found_with (file_command_seen request.entry) stored.now (plan_seen job)) }
+        found ≡ verdict_with (file_command_seen request.entry) stored.now (plan_seen job)) }
     ensures out { Writes O.Sink result out.old out.new
         (text_with (file_command_seen request.entry) stored.now (plan_seen job)) }
     ensures account { IsAccountFor (file_command_seen request.entry) (plan_seen job) result

@@ -10,7 +10,7 @@ use Rattle.std.specs.List.{All, find, range_with_len, slice_index}
 use Rattle.guest_specs.specs.Inputs.{AreInputs}
 use Rattle.run_config.specs.Configurations.{AreByteInputs}
 use Rattle.run_config.specs.Guests.{rise_from}
-use Rattle.run_config.specs.Records.{bad_record, byte_at, is_bad, moment_at, moment_before, record_at, record_count, records_of}
+use Rattle.run_config.specs.Records.{bad_record, record_byte, is_bad, moment_at, moment_before, record_at, record_count, records_of}
 use Rattle.run_config.proofs.Within.{rise_in_order}
 
 -- where a record begins
@@ -111,7 +111,7 @@ unfolding moment_before
 before_next bytes number = rw (add-one number) refl
 
 rises : (bytes : List ℕ) (start n : ℕ) → ((k : ℕ) → start ≤ k → k < start + n → IsGood bytes k)
-    → rise_from (moment_before bytes start) (map (λ k. (moment_at bytes k, byte_at bytes k)) (range_with_len start n)) ≡ true
+    → rise_from (moment_before bytes start) (map (λ k. (moment_at bytes k, record_byte bytes k)) (range_with_len start n)) ≡ true
 unfolding rise_from
 rises bytes start zero each = refl
 rises bytes start (suc n) each =
@@ -124,8 +124,8 @@ all_at P f start zero each = All-nil P
 all_at P f start (suc n) each =
     All-cons P (f start) _ (each start (omega arith) (omega arith)) (all_at P f (start + 1) n (λ k least most. each k (omega (arith, least)) (omega (arith, most))))
 
-byte_small : (bytes : List ℕ) → ((k : ℕ) → slice_index bytes k < 256) → (number : ℕ) → byte_at bytes number < 256
-unfolding byte_at record_at
+byte_small : (bytes : List ℕ) → ((k : ℕ) → slice_index bytes k < 256) → (number : ℕ) → record_byte bytes number < 256
+unfolding record_byte record_at
 byte_small bytes small number =
     rw (get_or-take 9 (drop (9 * number) bytes) 8 0 (omega arith), get_or-drop (9 * number) bytes 8 0) (small (9 * number + 8))
 
@@ -133,7 +133,7 @@ byte_small bytes small number =
 pub records_are_inputs : (bytes : List ℕ) → bad_record bytes ≡ None → AreInputs (records_of bytes)
 unfolding records_of moment_before
 records_are_inputs bytes none =
-    let f : ℕ → ℕ × ℕ = λ k. (moment_at bytes k, byte_at bytes k) in
+    let f : ℕ → ℕ × ℕ = λ k. (moment_at bytes k, record_byte bytes k) in
     let each = each_good bytes none in
     record {
       count = rw (length-map-range_with_len {X = ℕ × ℕ} f 0 (record_count bytes)) (few_records bytes none);
@@ -146,7 +146,7 @@ pub records_within : (bytes : List ℕ) → ((k : ℕ) → slice_index bytes k <
 unfolding records_of
 records_within bytes small none = record {
   inputs = records_are_inputs bytes none;
-  bytes = all_at (λ input. input.1 < 256) (λ k. (moment_at bytes k, byte_at bytes k)) 0 (record_count bytes) (λ k least most. byte_small bytes small k);
+  bytes = all_at (λ input. input.1 < 256) (λ k. (moment_at bytes k, record_byte bytes k)) 0 (record_count bytes) (λ k least most. byte_small bytes small k);
 }
 
 pub ruleset records = (begins, first_rest, record_passes, record_fails, no_record, not_last)

@@ -20,7 +20,7 @@ use Rattle.run_config.specs.declared.guests.InputSource.TheVariants.{Pairs, File
 use Rattle.run_config.specs.Guests.{absent_key, wrong_value, wrong_option, guest_fault, guest_tests, guests_fault, has_inputs, input_at, inputs_in, is_new_name, is_resumed, optional_source, origin_of, rise_from, settings_by, settings_of, source_in, weight_at}
 use Rattle.run_config.specs.Configurations.{AreByteInputs, IsGuestWithin, IsSourceWithin}
 use Rattle.run_config.specs.Tables.{Kind, any_text, text_of, integer_of}
-use Rattle.run_config.specs.Tests.{unless, first_fault, missing, out_of_range, wrong_kind}
+use Rattle.run_config.specs.Tests.{unless, first_fault, absent_fault, out_of_range, wrong_kind}
 use Rattle.run_config.specs.Values.{◌>>=◌, passes_if, has_length, is_name, is_of, natural, natural_at, natural_or, number_within, pair_within, pairs_within, text_at, text_within, two_items, value_at}
 use Rattle.run_config.proofs.Found.{number_found, text_found}
 
@@ -54,13 +54,13 @@ number_within-some low high value n e =
     subst (λ k. (low ≤ k) × (k ≤ high)) same (least, most))))
 
 -- a key that is there, with a value of its kind
-pub found_of_kind : (g i : Option ℕ) (t : Members) (k : ConfigKey) (kind : Kind) → missing g t k ≡ None → out_of_range i t (k, kind) ≡ None → (value : Data) × (value_at k t ≡ Some value) × (is_of kind value ≡ true)
-unfolding missing out_of_range wrong_kind
+pub found_of_kind : (g i : Option ℕ) (t : Members) (k : ConfigKey) (kind : Kind) → absent_fault g t k ≡ None → out_of_range i t (k, kind) ≡ None → (value : Data) × (value_at k t ≡ Some value) × (is_of kind value ≡ true)
+unfolding absent_fault out_of_range wrong_kind
 found_of_kind g i t k kind there fits =
     let (value, is) = is_some_value (value_at k t) (unless_none _ _ there) in
     (value, is, unless_none _ _ (rw is at fits))
 
-number_row : (g i : Option ℕ) (t : Members) (k : ConfigKey) (low high : ℕ) → missing g t k ≡ None → out_of_range i t (k, integer_of low high) ≡ None → (low ≤ natural_at k t) × (natural_at k t ≤ high)
+number_row : (g i : Option ℕ) (t : Members) (k : ConfigKey) (low high : ℕ) → absent_fault g t k ≡ None → out_of_range i t (k, integer_of low high) ≡ None → (low ≤ natural_at k t) × (natural_at k t ≤ high)
 unfolding is_of
 number_row g i t k low high there fits =
     let (value, is, of) = found_of_kind g i t k (integer_of low high) there fits in
@@ -75,7 +75,7 @@ or_false : {A : Type 0} (test : A → Bool) (o : Option A) → option_map_or tes
 or_false test None e = cc
 or_false test (Some x) e = (x, refl, e)
 
-text_row : (g i : Option ℕ) (t : Members) (k : ConfigKey) (low high : ℕ) → missing g t k ≡ None → out_of_range i t (k, text_of low high) ≡ None → (low ≤ length (text_at k t)) × (length (text_at k t) ≤ high)
+text_row : (g i : Option ℕ) (t : Members) (k : ConfigKey) (low high : ℕ) → absent_fault g t k ≡ None → out_of_range i t (k, text_of low high) ≡ None → (low ≤ length (text_at k t)) × (length (text_at k t) ≤ high)
 unfolding is_of
 text_row g i t k low high there fits =
     let (value, is, of) = found_of_kind g i t k (text_of low high) there fits in
@@ -220,12 +220,12 @@ fresh_within format names t e =
     let (option, e) = first_none (wrong_option false format n t) _ e in
     let (named, e) = first_none (unless (is_new_name names (text_at key.Name t)) _) _ e in
     let (input, e) = first_none (unless (is_some (input_at format t)) _) _ e in
-    let (a-name, r) = first_none (missing (Some n) t key.Name) _ absent in
-    let (a-image, r) = first_none (missing (Some n) t key.Image) _ r in
-    let (a-blocks, r) = first_none (missing (Some n) t key.Blocks) _ r in
-    let (a-spaces, r) = first_none (missing (Some n) t key.Spaces) _ r in
-    let (a-entries, r) = first_none (missing (Some n) t key.Entries) _ r in
-    let (a-console, r) = first_none (missing (Some n) t key.Console) _ r in
+    let (a-name, r) = first_none (absent_fault (Some n) t key.Name) _ absent in
+    let (a-image, r) = first_none (absent_fault (Some n) t key.Image) _ r in
+    let (a-blocks, r) = first_none (absent_fault (Some n) t key.Blocks) _ r in
+    let (a-spaces, r) = first_none (absent_fault (Some n) t key.Spaces) _ r in
+    let (a-entries, r) = first_none (absent_fault (Some n) t key.Entries) _ r in
+    let (a-console, r) = first_none (absent_fault (Some n) t key.Console) _ r in
     let (w-name, w) = first_none (out_of_range (Some n) t (key.Name, any_text)) _ wrong in
     let (w-image, w) = first_none (out_of_range (Some n) t (key.Image, text_of 1 255)) _ w in
     let (w-blocks, w) = first_none (out_of_range (Some n) t (key.Blocks, integer_of 1 32)) _ w in
@@ -267,8 +267,8 @@ resumed_within format names t e =
     let (wrong, e) = first_none (wrong_value true n t) _ e in
     let (option, e) = first_none (wrong_option true format n t) _ e in
     let (named, e) = first_none (unless (is_new_name names (text_at key.Name t)) _) _ e in
-    let (a-name, r) = first_none (missing (Some n) t key.Name) _ absent in
-    let (a-resume, r) = first_none (missing (Some n) t key.Resume) _ r in
+    let (a-name, r) = first_none (absent_fault (Some n) t key.Name) _ absent in
+    let (a-resume, r) = first_none (absent_fault (Some n) t key.Resume) _ r in
     let (w-name, w) = first_none (out_of_range (Some n) t (key.Name, any_text)) _ wrong in
     let (w-resume, w) = first_none (out_of_range (Some n) t (key.Resume, text_of 1 255)) _ w in
     let name = name-within names (text_at key.Name t) (unless_none _ _ named) in

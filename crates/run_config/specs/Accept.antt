@@ -14,7 +14,7 @@ use Rattle.run_config.specs.declared.schedules.Schedule.{Schedule}
 use Rattle.run_config.specs.Configurations.{Configuration, IsWithinLimits}
 use Rattle.run_config.specs.Guests.{guests_fault, settings_of}
 use Rattle.run_config.specs.Tables.{document_table, document_keys}
-use Rattle.run_config.specs.Tests.{unless, first_fault, missing, wrong_among}
+use Rattle.run_config.specs.Tests.{unless, first_fault, absent_fault, wrong_among}
 use Rattle.run_config.specs.Turns.{schedule_at, schedule_fault, turns_of}
 use Rattle.run_config.specs.Values.{◌>>=◌, passes_if, value_at, natural, natural_at, has_only, tables_of}
 
@@ -78,7 +78,7 @@ schedule_in document = schedule_at (length (guests_in document)) document
 -- (own)
 unfoldable pub head_fault : Members → Option ConfigFault
 head_fault document =
-    first_fault (unless (is_some (format_at document)) fault.format ∷ missing None document key.Guest ∷ [])
+    first_fault (unless (is_some (format_at document)) fault.format ∷ absent_fault None document key.Guest ∷ [])
 
 -- the first of the faults that are found after these (own)
 unfoldable pub body_fault : Members → Option ConfigFault

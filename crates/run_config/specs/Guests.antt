@@ -13,7 +13,7 @@ use Rattle.run_config.specs.declared.guests.InputSource.TheVariants.{Pairs, File
 use Rattle.run_config.specs.declared.guests.Origin.{Origin}
 use Rattle.run_config.specs.declared.guests.Origin.TheVariants.{Fresh, Saved}
 use Rattle.run_config.specs.Tables.{guest_table, optional_table, guest_keys}
-use Rattle.run_config.specs.Tests.{unless, first_fault, missing, wrong_among}
+use Rattle.run_config.specs.Tests.{unless, first_fault, absent_fault, wrong_among}
 use Rattle.run_config.specs.Values.{◌>>=◌, passes_if, value_at, text_at, text_within, natural_at, natural_or, is_name, has_only, pairs_within}
 
 -- the first number of each pair is at least that of the pair before, and that of the first pair at least this
@@ -69,7 +69,7 @@ is_new_name names name = is_name name && not (list_any (bytes_eq name) names)
 -- the fault of the first key that is absent, in the order of the table
 unfoldable pub absent_key : Bool → ℕ → Members → Option ConfigFault
 absent_key resumed number guest =
-    first_fault (map (λ row. missing (Some number) guest row.0) (guest_table resumed))
+    first_fault (map (λ row. absent_fault (Some number) guest row.0) (guest_table resumed))
 
 -- the fault of the first value that is not of its kind: of the keys that a guest must have, and of those that
 -- it may have after them

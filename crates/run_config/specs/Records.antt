@@ -16,8 +16,8 @@ unfoldable pub moment_at : List ℕ → ℕ → ℕ
 moment_at bytes number = from_le_bytes w64 (record_at bytes number)
 
 -- its byte, the last of the nine (own)
-unfoldable pub byte_at : List ℕ → ℕ → ℕ
-byte_at bytes number = slice_index (record_at bytes number) 8
+unfoldable pub record_byte : List ℕ → ℕ → ℕ
+record_byte bytes number = slice_index (record_at bytes number) 8
 
 -- the moment of the record before, and 0 before the first one
 unfoldable pub moment_before : List ℕ → ℕ → ℕ
@@ -40,4 +40,4 @@ bad_record bytes = find (is_bad bytes) (range_with_len 0 (record_count bytes))
 -- the moment and the byte of each record
 unfoldable pub records_of : List ℕ → List (ℕ × ℕ)
 records_of bytes =
-    map (λ number. (moment_at bytes number, byte_at bytes number)) (range_with_len 0 (record_count bytes))
+    map (λ number. (moment_at bytes number, record_byte bytes number)) (range_with_len 0 (record_count bytes))

@@ -19,8 +19,8 @@ first_fault (None ∷ tests) = first_fault tests
 first_fault (Some found ∷ tests) = Some found
 
 -- the key must be there: in a guest's table, or in the document where no guest is named
-unfoldable pub missing : Option ℕ → Members → ConfigKey → Option ConfigFault
-missing guest table key = unless (is_some (value_at key table)) (fault.missing guest key)
+unfoldable pub absent_fault : Option ℕ → Members → ConfigKey → Option ConfigFault
+absent_fault guest table key = unless (is_some (value_at key table)) (fault.missing guest key)
 
 -- a value must be of the kind that its row of the table says
 unfoldable pub wrong_kind : Option ℕ → ConfigKey × Kind → Data → Option ConfigFault

@@ -3,7 +3,7 @@
 ghost use Rattle.std.specs.Prelude.{◌≡◌, ℕ, ◌*◌, ◌+◌, ◌<◌, ◌≤◌, length, Some, None, IfOk, IfSome, IsErrOf, OnOk};
 ghost use Rattle.run_config.specs.declared.input_records.InputEnd.TheVariants.{NoMemory, Bad};
 ghost use Rattle.run_config.specs.Configurations.{AreByteInputs};
-ghost use Rattle.run_config.specs.Records.{bad_record, byte_at, is_bad, moment_at, moment_before, record_at, records_of, record_count};
+ghost use Rattle.run_config.specs.Records.{bad_record, record_byte, is_bad, moment_at, moment_before, record_at, records_of, record_count};
 
 use std::alloc::{AllocError, Global};
 use thiserror::Error;
@@ -68,10 +68,10 @@ fn moment_at(bytes: &[u8], number: usize) -> u64
 }
 
 // The byte of a whole record.
-#[tactic(auto, unfolding(crate::specs::Records::byte_at))]
+#[tactic(auto, unfolding(crate::specs::Records::record_byte))]
 fn byte_at(bytes: &[u8], number: usize) -> u8
     requires { 9 * number + 9 ≤ length bytes.now }
-    ensures { result ≡ byte_at bytes.now number }
+    ensures { result ≡ record_byte bytes.now number }
 {
     record_at(bytes, number)[8]
 }

@@ -152,7 +152,7 @@ fn all_settings(
 }
 
 // The format of a document that says one, and has the key of the guests.
-#[tactic(auto, unfolding(crate::specs::Accept::head_fault, crate::specs::Accept::format_in, crate::specs::Tests::missing))]
+#[tactic(auto, unfolding(crate::specs::Accept::head_fault, crate::specs::Accept::format_in, crate::specs::Tests::absent_fault))]
 fn head_of(document: &Table) -> Result<Format, ConfigFault>
     ensures passed { OnOk result (head_fault (table_view document.now) ≡ None) }
     ensures format { IfOk result (λ format. format ≡ format_in (table_view document.now)) }

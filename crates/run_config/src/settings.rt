@@ -9,7 +9,7 @@ ghost use Rattle.run_config.specs.declared.keys.ConfigKey.TheVariants as key;
 ghost use Rattle.run_config.specs.Guests.{absent_key, wrong_value, wrong_option, device_at, guest_fault, guest_tests, input_at, is_new_name, is_resumed, settings_by, settings_of, weight_at};
 ghost use Rattle.run_config.specs.Seen.{AreAt, AreReadFrom, HasNames, HasValues, names_of, resumed_seen, settings_seen, wrong_seen};
 ghost use Rattle.run_config.specs.Tables.{integer_of};
-ghost use Rattle.run_config.specs.Tests.{first_fault, missing, out_of_range};
+ghost use Rattle.run_config.specs.Tests.{first_fault, absent_fault, out_of_range};
 ghost use Rattle.run_config.specs.Values.{natural_or, value_at};
 
 use crate::ends::ReadEnd;
@@ -61,11 +61,11 @@ pub struct ResumedRef<'a> {
 }
 
 // The value of a key that a guest must have.
-#[tactic(auto, unfolding(crate::specs::Tests::missing))]
+#[tactic(auto, unfolding(crate::specs::Tests::absent_fault))]
 fn required<'a>(table: &'a Table, guest: u32, key: ConfigKey) -> Result<&'a Value, ConfigFault>
     ensures value { IfOk result (λ v. value_at key (table_view table.now) ≡ Some (view v.now)) }
-    ensures passed { OnOk result (missing (Some guest) (table_view table.now) key ≡ None) }
-    ensures refused { IfErr result (λ f. missing (Some guest) (table_view table.now) key ≡ Some f) }
+    ensures passed { OnOk result (absent_fault (Some guest) (table_view table.now) key ≡ None) }
+    ensures refused { IfErr result (λ f. absent_fault (Some guest) (table_view table.now) key ≡ Some f) }
 {
     match value_at(table, key) {
         Some(value) => Ok(value),

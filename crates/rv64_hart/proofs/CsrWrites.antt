@@ -23,7 +23,7 @@ use Rattle.op_defs.specs.declared.ops.CsrOp.{CsrOp}
 use Rattle.machine_defs.specs.Outcomes.{Outcome}
 use Rattle.machine_defs.specs.Privileges.{combined, csr_accessed, csr_changed, csr_shown, value_or_zero}
 use Rattle.machine_laws.specs.InstructionEnds.{OutcomeHas}
-use Rattle.rv64_hart.specs.Endings.{TranslatesAlike, Unless}
+use Rattle.rv64_hart.specs.Endings.{HasSameTranslation, Unless}
 
 -- the registers of which a context and a privilege are made
 abbrev is_status_or_root : SupervisorCsr → Bool
@@ -189,7 +189,7 @@ reached_other csrs VU r is = reached_in_vu_other csrs r is
 abbrev Alike : Csrs → Csrs → Type 0
 Alike csrs other = (other.hs.status ≡ csrs.hs.status) × (other.hs.atp ≡ csrs.hs.atp) × (other.vs.status ≡ csrs.vs.status) × (other.vs.atp ≡ csrs.vs.atp) × (other.hgatp ≡ csrs.hgatp)
 
-translates_alike : (csrs other : Csrs) (mode : Mode) → Alike csrs other → TranslatesAlike csrs mode other mode
+translates_alike : (csrs other : Csrs) (mode : Mode) → Alike csrs other → HasSameTranslation csrs mode other mode
 translates_alike csrs other HS (a, b, c, d, e) = (rw (a, b) refl, rw a refl)
 translates_alike csrs other U (a, b, c, d, e) = (rw (a, b) refl, rw a refl)
 translates_alike csrs other VS (a, b, c, d, e) = (rw (a, d, e) refl, rw (a, c) refl)
@@ -235,7 +235,7 @@ written_alike csrs Time v is = (refl, refl, refl, refl, refl)
 written_alike csrs GuestTime v is = (refl, refl, refl, refl, refl)
 
 abbrev LeavesContext : Csrs → Mode → Result Csrs CsrEnd → Type 0
-LeavesContext csrs mode (Ok other) = TranslatesAlike csrs mode other mode
+LeavesContext csrs mode (Ok other) = HasSameTranslation csrs mode other mode
 LeavesContext csrs mode (Err end) = Unit {0}
 
 reached_leaves : (csrs : Csrs) (mode : Mode) (v : ℕ) (r : Result Register CsrEnd) → ReachesOther r → LeavesContext csrs mode (written_by csrs r v)
@@ -257,7 +257,7 @@ write_leaves csrs mode n v other = by (nat_le 0xC00 n)
 
 -- an instruction on a register
 abbrev pub EndsAlike : Virtual → Outcome → Type 0
-EndsAlike s o = OutcomeHas (λ completion. TranslatesAlike s.csrs s.mode completion.state.csrs completion.state.mode) (λ state. Unit {0}) (λ wanted. Unit {0}) o
+EndsAlike s o = OutcomeHas (λ completion. HasSameTranslation s.csrs s.mode completion.state.csrs completion.state.mode) (λ state. Unit {0}) (λ wanted. Unit {0}) o
 
 shown_keeps : (s : Virtual) (word rd : ℕ) (value : Result ℕ CsrEnd) → EndsAlike s (csr_shown s word rd value)
 shown_keeps s word rd (Ok value) = (refl, refl)

@@ -40,7 +40,7 @@ use Rattle.machine_laws.specs.MissedPlaces.{wanted_by, wanted_of}
 use Rattle.translation_buffer.specs.Places.{passed_by}
 use Rattle.rv64_hart.specs.Endings.{attempt_at, attempt_of_effect, attempt_of_word, attempt_with}
 use Rattle.rv64_hart.specs.MachineMemory.{found_on, found_over, mmu_on, reading_of_memory}
-use Rattle.rv64_hart.specs.Steps.{Attempt, attempt_of, caching, with_first, with_found_on}
+use Rattle.rv64_hart.specs.Steps.{Attempt, attempt_of, caching, caching_found, with_found_on}
 
 -- where no table is walked, the address is passed on, and nothing is found
 pub passes : (first : List FirstEntry) (tag : Tag) (second : SecondStage) (reading : Reading) (who : Privilege) (va address : ℕ) (access : Access) (atp : SupervisorRoot)
@@ -146,7 +146,7 @@ goes_on_at s memory place found at is =
 pub op_ends : (found : List FirstEntry) (s : HartState) (memory : List ℕ) (word : ℕ) (op : Op) (effect : Effect) (r : Attempt) → op_of word ≡ Some op → effect ≡ meaning op s.virt.regs
     → attempt_with found s memory word effect ≡ r → attempt_at found s memory word ≡ r
 op_ends found s memory word op effect r is e ends =
-    subst (λ o. attempt_of (with_first (with_first s found) (found_by_op s.tag (mmu_on s memory) s.virt o)) memory (decoded (mmu_on s memory) s.virt word o) ≡ r) (sym is)
+    subst (λ o. attempt_of (caching_found (caching_found s found) (found_by_op s.tag (mmu_on s memory) s.virt o)) memory (decoded (mmu_on s memory) s.virt word o) ≡ r) (sym is)
     (subst (λ x. attempt_with found s memory word x ≡ r) e ends)
 
 -- that of a call
@@ -155,14 +155,14 @@ unfolding op_of system_of system_op_of
 call_of = refl
 
 pub call_ends : (found : List FirstEntry) (s : HartState) (memory : List ℕ) (word : ℕ) (r : Attempt) → word ≡ 0x00000073
-    → attempt_of (with_first s found) memory (called_from s.virt.mode) ≡ r → attempt_at found s memory word ≡ r
+    → attempt_of (caching_found s found) memory (called_from s.virt.mode) ≡ r → attempt_at found s memory word ≡ r
 unfolding meaning all_filled
 call_ends found s memory word r is ends = op_ends found s memory word Ecall Calls r (ap op_of is ∙ call_of) refl ends
 
 pub rare_ends : (s : HartState) (memory : List ℕ) (word : ℕ) (op : Op) (r : Attempt) → op_of word ≡ Some op → attempt_at [] s memory word ≡ r → attempt_of_effect s memory word (meaning op s.virt.regs) ≡ r
 unfolding all_filled
 rare_ends s memory word op r is ends =
-    subst (λ o. attempt_of (with_first s (found_by_op s.tag (mmu_on s memory) s.virt o)) memory (decoded (mmu_on s memory) s.virt word o) ≡ r) is ends
+    subst (λ o. attempt_of (caching_found s (found_by_op s.tag (mmu_on s memory) s.virt o)) memory (decoded (mmu_on s memory) s.virt word o) ≡ r) is ends
 
 pub word_ends : (s : HartState) (memory : List ℕ) (word : ℕ) → attempt_at [] s memory word ≡ attempt_of_word s memory word
 unfolding all_filled
@@ -180,6 +180,6 @@ common_plain word op is = by (nat_eq (opcode word) 0b0001111) (nat_eq (opcode wo
     by false false false is = refl
 
 pub data_ends : (s : HartState) (memory : List ℕ) (word : ℕ) (op : Op) (wanted : DataAccess) (r : Attempt) → meaning op s.virt.regs ≡ Data wanted
-    → attempt_of (with_first s (found_over memory s wanted.address wanted.width (kind_of wanted.purpose))) memory (accessed_data (mmu_on s memory) s.virt (event_of s.virt.regs.pc word) wanted) ≡ r
+    → attempt_of (caching_found s (found_over memory s wanted.address wanted.width (kind_of wanted.purpose))) memory (accessed_data (mmu_on s memory) s.virt (event_of s.virt.regs.pc word) wanted) ≡ r
     → attempt_of_effect s memory word (meaning op s.virt.regs) ≡ r
 data_ends s memory word op wanted r is ends = subst (λ effect. attempt_of_effect s memory word effect ≡ r) (sym is) ends

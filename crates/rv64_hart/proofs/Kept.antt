@@ -23,7 +23,7 @@ use Rattle.translation_buffer.specs.Places.{translator}
 use Rattle.translation_buffer.specs.Serving.{PageStands, Serves, ServesHart}
 use Rattle.translation_buffer.specs.Tags.{run_bits, who_bits}
 use Rattle.translation_buffer.proofs.Stored.{serves_completed}
-use Rattle.rv64_hart.specs.Endings.{NoneDueIfQuiet, KeepsContext, TranslatesAlike}
+use Rattle.rv64_hart.specs.Endings.{NoneDueIfQuiet, KeepsContext, HasSameTranslation}
 use Rattle.rv64_hart.specs.MachineMemory.{access_over, mmu_on, reading_of_memory}
 use Rattle.rv64_hart.specs.Steps.{Makes, attempt_of, caching}
 
@@ -56,7 +56,7 @@ serves_after buffer s new memory other width purpose place serves free is state 
 
 -- and after a change by which accesses are translated alike
 pub serves_alike : (buffer : Buffer) (first : List FirstEntry) (owner : Tag) (csrs : Csrs) (mode : Mode) (other : Csrs) (other_mode : Mode) (memory : List ℕ)
-    → TranslatesAlike csrs mode other other_mode → Serves buffer first owner csrs mode memory → Serves buffer first owner other other_mode memory
+    → HasSameTranslation csrs mode other other_mode → Serves buffer first owner csrs mode memory → Serves buffer first owner other other_mode memory
 serves_alike buffer first owner csrs mode other other_mode memory (context, who) serves = record {
   context = serves.context ∙ sym context;
   who = serves.who ∙ ap (λ p. run_bits buffer.run + who_bits p) (sym who);

@@ -14,7 +14,7 @@ use Rattle.op_defs.specs.Meaning.{meaning, operand_of, writes}
 use Rattle.machine_defs.specs.Privileges.{csr_accessed, privileged, refusal, refusal_code}
 use Rattle.privileged_ops.specs.PrivilegedEnds.{effect_refusal}
 use Rattle.rv64_hart.specs.Endings.{attempt_with}
-use Rattle.rv64_hart.specs.Steps.{Attempt, Raises, attempt_of, with_first}
+use Rattle.rv64_hart.specs.Steps.{Attempt, Raises, attempt_of, caching_found}
 
 pub refused_ends : (found : List FirstEntry) (s : HartState) (memory : List ℕ) (word : ℕ) (effect : Effect) (end : CsrEnd)
     → Some end ≡ effect_refusal effect s.virt.csrs.hstatus s.virt.mode
@@ -27,7 +27,7 @@ refused_ends found s memory word Calls end is = absurd cc
 refused_ends found s memory word (Privileged effect) end is = rw (sym is) refl
 
 pub register_ends : (found : List FirstEntry) (s : HartState) (memory : List ℕ) (word : ℕ) (op : CsrOp) (source : CsrSource) (rd number : ℕ) (r : Attempt)
-    → attempt_of (with_first s found) memory (csr_accessed s.virt word op number (operand_of source s.virt.regs) (writes op source) rd) ≡ r
+    → attempt_of (caching_found s found) memory (csr_accessed s.virt word op number (operand_of source s.virt.regs) (writes op source) rd) ≡ r
     → attempt_with found s memory word (meaning (Csr op source rd number) s.virt.regs) ≡ r
 unfolding meaning privileged refusal all_filled
 register_ends found s memory word op source rd number r ends = ends

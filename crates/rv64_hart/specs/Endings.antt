@@ -23,7 +23,7 @@ use Rattle.rv64_hart.specs.declared.endings.Ended.TheVariants.{Plain, System, Ra
 use Rattle.rv64_hart.specs.declared.endings.StepEnd.{StepEnd}
 use Rattle.rv64_hart.specs.declared.endings.StepEnd.TheVariants.{Continues, Ends, Left}
 use Rattle.rv64_hart.specs.MachineMemory.{mmu_on}
-use Rattle.rv64_hart.specs.Steps.{Attempt, Makes, Raises, attempt_of, caching, Progress, enters_vs, with_first}
+use Rattle.rv64_hart.specs.Steps.{Attempt, Makes, Raises, attempt_of, caching, Progress, enters_vs, caching_found}
 
 -- where an access is made, by the answer; where it is not, the trap that it is to the hart, whatever has been
 -- found by then, and whatever it is for and is to follow there
@@ -37,23 +37,23 @@ IsAnswered s memory located trap None =
 -- nothing
 abbrev pub attempt_of_word : HartState → List ℕ → ℕ → Attempt
 attempt_of_word s memory word =
-    attempt_of (with_first s (found_by_op s.tag (mmu_on s memory) s.virt (op_of word))) memory
+    attempt_of (caching_found s (found_by_op s.tag (mmu_on s memory) s.virt (op_of word))) memory
     (instruction (mmu_on s memory) s.virt word)
 
 abbrev pub attempt_of_effect : HartState → List ℕ → ℕ → Effect → Attempt
 attempt_of_effect s memory word effect =
-    attempt_of (with_first s (found_by_effect s.tag (mmu_on s memory) s.virt effect)) memory
+    attempt_of (caching_found s (found_by_effect s.tag (mmu_on s memory) s.virt effect)) memory
     (executed (mmu_on s memory) s.virt word effect)
 
 -- and where it has found these first-stage translations
 abbrev pub attempt_at : List FirstEntry → HartState → List ℕ → ℕ → Attempt
 attempt_at found s memory word =
-    let after = with_first (with_first s found) (found_by_op s.tag (mmu_on s memory) s.virt (op_of word)) in
+    let after = caching_found (caching_found s found) (found_by_op s.tag (mmu_on s memory) s.virt (op_of word)) in
     attempt_of after memory (instruction (mmu_on s memory) s.virt word)
 
 abbrev pub attempt_with : List FirstEntry → HartState → List ℕ → ℕ → Effect → Attempt
 attempt_with found s memory word effect =
-    let after = with_first (with_first s found) (found_by_effect s.tag (mmu_on s memory) s.virt effect) in
+    let after = caching_found (caching_found s found) (found_by_effect s.tag (mmu_on s memory) s.virt effect) in
     attempt_of after memory (executed (mmu_on s memory) s.virt word effect)
 
 -- what a step asks for, by how its instruction ended, the trap that is told apart, the event that the step is
@@ -111,8 +111,8 @@ Unless true P = ⊤
 Unless false P = P
 
 -- accesses are translated under the same roots, and for the same privilege
-abbrev pub TranslatesAlike : Csrs → Mode → Csrs → Mode → Type 0
-TranslatesAlike csrs mode other other_mode =
+abbrev pub HasSameTranslation : Csrs → Mode → Csrs → Mode → Type 0
+HasSameTranslation csrs mode other other_mode =
     (context_of other other_mode ≡ context_of csrs mode)
     × (privilege_of other other_mode ≡ privilege_of csrs mode)
 

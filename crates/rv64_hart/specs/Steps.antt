@@ -30,11 +30,11 @@ caching s first = record s { virt = record s.virt { first = first } }
 abbrev pub with_virt : HartState → Virtual → HartState
 with_virt s virt = record s { virt = record virt { first = s.virt.first } }
 
-abbrev pub with_first : HartState → List FirstEntry → HartState
-with_first s found = caching s (all_filled s.virt.first found)
+abbrev pub caching_found : HartState → List FirstEntry → HartState
+caching_found s found = caching s (all_filled s.virt.first found)
 
 abbrev pub with_found_on : HartState → List ℕ → HartState
-with_found_on s memory = with_first s (found_on s memory)
+with_found_on s memory = caching_found s (found_on s memory)
 
 -- what a step asks for, before it is known where its trap goes: the state, the memory and what the step was,
 -- or a trap
@@ -91,7 +91,7 @@ end_by s memory (Raises trap) = trapped_to s memory trap (target s.virt.csrs s.v
 
 -- one step of the hart over machine memory. What it finds is cached, unless it traps to HS
 unfoldable pub hart_step : HartState → List ℕ → HartEnd
-hart_step s memory = end_by (with_first s (found_at_exit s memory)) memory
+hart_step s memory = end_by (caching_found s (found_at_exit s memory)) memory
     (next_attempt s memory (due s.virt.csrs s.virt.mode))
 
 -- how far a run of the hart has come: its state, memory, trace, and whether it ends here for a trap into VS

@@ -11,7 +11,7 @@ ghost use Rattle.data_access.specs.Places.{IsPlaceFor};
 ghost use Rattle.translation_buffer.specs.Serving.{ServesHart};
 ghost use Rattle.rv64_hart.specs.Endings.{IfPlain, IfRaised, IsAnswered, KeepsContext, attempt_by};
 ghost use Rattle.rv64_hart.specs.MachineMemory.{access_over, found_over, mmu_on, reading_of_memory};
-ghost use Rattle.rv64_hart.specs.Steps.{attempt_of, with_first};
+ghost use Rattle.rv64_hart.specs.Steps.{attempt_of, caching_found};
 
 use crate::endings::Ended;
 use crate::leaves::cache;
@@ -114,7 +114,7 @@ fn access_place(
     ensures located { IsAnswered state.old memory.now
         (access_over memory.now state.old va width access) trap.new result }
     ensures found { IfSome result (λ place. state.new
-        ≡ with_first state.old (found_over memory.now state.old va width access)) }
+        ≡ caching_found state.old (found_over memory.now state.old va width access)) }
     ensures stays { IfNone result (state.new ≡ state.old) }
     ensures place { IfSome result (λ place. IsPlaceFor (machine_memory memory.now) width place) }
     ensures serves { ServesHart buffer.new state.new memory.now }
@@ -142,7 +142,7 @@ fn place_anew(
     ensures located { IsAnswered state.old memory.now
         (access_over memory.now state.old va width access) trap.new result }
     ensures found { IfSome result (λ place. state.new
-        ≡ with_first state.old (found_over memory.now state.old va width access)) }
+        ≡ caching_found state.old (found_over memory.now state.old va width access)) }
     ensures stays { IfNone result (state.new ≡ state.old) }
     ensures place { IfSome result (λ place. IsPlaceFor (machine_memory memory.now) width place) }
     ensures serves { ServesHart buffer.new state.new memory.now }
@@ -167,7 +167,7 @@ pub fn access_data(
     trap: &mut Trap,
 ) -> Ended
     requires serves { ServesHart buffer.old state.old memory.old }
-    ensures ends { (event : Event) → attempt_of (with_first state.old
+    ensures ends { (event : Event) → attempt_of (caching_found state.old
         (found_over memory.old state.old wanted.address wanted.width (kind_of wanted.purpose))) memory.old
         (accessed_data (mmu_on state.old memory.old) state.old.virt event wanted)
         ≡ attempt_by result trap.new event state.new memory.new }
@@ -206,8 +206,8 @@ pub fn access_data_anew(
 ) -> Ended
     requires serves { ServesHart buffer.old state.old memory.old }
     requires fits { IfSome found (λ e. HasGuestFrame e.now) }
-    ensures ends { (event : Event) → attempt_of (with_first
-        (with_first state.old (entries_of (option_map (λ e. e.now) found.entry)))
+    ensures ends { (event : Event) → attempt_of (caching_found
+        (caching_found state.old (entries_of (option_map (λ e. e.now) found.entry)))
         (found_over memory.old state.old wanted.address wanted.width (kind_of wanted.purpose))) memory.old
         (accessed_data (mmu_on state.old memory.old) state.old.virt event wanted)
         ≡ attempt_by result trap.new event state.new memory.new }
@@ -243,7 +243,7 @@ pub fn load_data(
     trap: &mut Trap,
 ) -> Ended
     requires serves { ServesHart buffer.old state.old memory.now }
-    ensures ends { (event : Event) → attempt_of (with_first state.old
+    ensures ends { (event : Event) → attempt_of (caching_found state.old
         (found_over memory.now state.old at width Access.Load)) memory.now
         (accessed_data (mmu_on state.old memory.now) state.old.virt event
         (record { address = at; width = width; purpose = Load signed rd }))
@@ -273,7 +273,7 @@ fn load_sized(
     trap: &mut Trap,
 ) -> Ended
     requires serves { ServesHart buffer.old state.old memory.now }
-    ensures ends { (event : Event) → attempt_of (with_first state.old
+    ensures ends { (event : Event) → attempt_of (caching_found state.old
         (found_over memory.now state.old at width Access.Load)) memory.now
         (accessed_data (mmu_on state.old memory.now) state.old.virt event
         (record { address = at; width = width; purpose = Load signed rd }))
@@ -303,7 +303,7 @@ pub fn store_data(
     trap: &mut Trap,
 ) -> Ended
     requires serves { ServesHart buffer.old state.old memory.old }
-    ensures ends { (event : Event) → attempt_of (with_first state.old
+    ensures ends { (event : Event) → attempt_of (caching_found state.old
         (found_over memory.old state.old address width Access.Store)) memory.old
         (accessed_data (mmu_on state.old memory.old) state.old.virt event
         (record { address = address; width = width; purpose = Store value }))
@@ -332,7 +332,7 @@ fn store_sized(
     trap: &mut Trap,
 ) -> Ended
     requires serves { ServesHart buffer.old state.old memory.old }
-    ensures ends { (event : Event) → attempt_of (with_first state.old
+    ensures ends { (event : Event) → attempt_of (caching_found state.old
         (found_over memory.old state.old address width Access.Store)) memory.old
         (accessed_data (mmu_on state.old memory.old) state.old.virt event
         (record { address = address; width = width; purpose = Store value }))

@@ -16,9 +16,9 @@ ghost use Rattle.machine_defs.specs.FirstLeaves.{entries_of};
 ghost use Rattle.arch_defs.specs.Registers.{next};
 ghost use Rattle.machine_defs.specs.Privileges.{csr_accessed, privileged};
 ghost use Rattle.translation_buffer.specs.Serving.{Serves, ServesHart};
-ghost use Rattle.rv64_hart.specs.Endings.{IfPlain, IfRaised, KeepsContext, TranslatesAlike, Unless, attempt_at, attempt_by, attempt_with};
+ghost use Rattle.rv64_hart.specs.Endings.{IfPlain, IfRaised, KeepsContext, HasSameTranslation, Unless, attempt_at, attempt_by, attempt_with};
 ghost use Rattle.rv64_hart.specs.MachineMemory.{found_over, mmu_on};
-ghost use Rattle.rv64_hart.specs.Steps.{Raises, attempt_of, caching, with_first};
+ghost use Rattle.rv64_hart.specs.Steps.{Raises, attempt_of, caching, caching_found};
 
 use crate::accesses::{access_data, access_data_anew};
 use crate::endings::{Ended, raise};
@@ -142,7 +142,7 @@ fn register(
     requires serves { ServesHart buffer.old state.old memory.now }
     requires fits { IfSome found (λ e. HasGuestFrame e.now) }
     ensures ends { (made : Event) → attempt_of
-        (with_first state.old (entries_of (option_map (λ e. e.now) found.entry))) memory.now
+        (caching_found state.old (entries_of (option_map (λ e. e.now) found.entry))) memory.now
         (csr_accessed state.old.virt word op number (operand_of source state.old.virt.regs)
         (writes op source) rd) ≡ attempt_by result trap.new made state.new memory.now }
     ensures stays { IfRaised result (state.new ≡ state.old) }
@@ -257,8 +257,8 @@ fn data(
 ) -> Ended
     requires serves { ServesHart buffer.old state.old memory.old }
     requires fits { IfSome found (λ e. HasGuestFrame e.now) }
-    ensures ends { (event : Event) → attempt_of (with_first
-        (with_first state.old (entries_of (option_map (λ e. e.now) found.entry)))
+    ensures ends { (event : Event) → attempt_of (caching_found
+        (caching_found state.old (entries_of (option_map (λ e. e.now) found.entry)))
         (found_over memory.old state.old wanted.address wanted.width (kind_of wanted.purpose))) memory.old
         (accessed_data (mmu_on state.old memory.old) state.old.virt event wanted)
         ≡ attempt_by result trap.new event state.new memory.new }
@@ -301,7 +301,7 @@ fn privileged(
     requires serves { ServesHart buffer.old state.old memory.now }
     requires fits { IfSome found (λ e. HasGuestFrame e.now) }
     ensures ends { (made : Event) → attempt_of
-        (with_first state.old (entries_of (option_map (λ e. e.now) found.entry))) memory.now
+        (caching_found state.old (entries_of (option_map (λ e. e.now) found.entry))) memory.now
         (privileged state.old.virt word effect)
         ≡ attempt_by result trap.new made state.new memory.now }
     ensures stays { IfRaised result (state.new ≡ state.old) }
@@ -335,7 +335,7 @@ fn privileged(
 // the mode as they are.
 fn settle(state: &mut HartState, buffer: &mut Buffer, found: Option<&FirstEntry>)
     requires fits { IfSome found (λ e. HasGuestFrame e.now) }
-    ensures state { state.new ≡ with_first state.old (entries_of (option_map (λ e. e.now) found.entry)) }
+    ensures state { state.new ≡ caching_found state.old (entries_of (option_map (λ e. e.now) found.entry)) }
     ensures serves { (before : Csrs) (mode_before : Mode) (memory : List ℕ)
         → Serves buffer.old state.old.virt.first state.old.tag before mode_before memory
         → ServesHart buffer.new state.new memory }
@@ -361,9 +361,9 @@ fn settle_access(
     found: Option<&FirstEntry>,
 )
     requires fits { IfSome found (λ e. HasGuestFrame e.now) }
-    ensures state { state.new ≡ with_first state.old (entries_of (option_map (λ e. e.now) found.entry)) }
+    ensures state { state.new ≡ caching_found state.old (entries_of (option_map (λ e. e.now) found.entry)) }
     ensures serves { (before : Csrs) (mode_before : Mode) (memory : List ℕ)
-        → Unless changes (TranslatesAlike before mode_before state.old.virt.csrs state.old.virt.mode)
+        → Unless changes (HasSameTranslation before mode_before state.old.virt.csrs state.old.virt.mode)
         → Serves buffer.old state.old.virt.first state.old.tag before mode_before memory
         → ServesHart buffer.new state.new memory }
 {

@@ -16,7 +16,7 @@ ghost use Rattle.translation_buffer.specs.Serving.{ServesHart};
 ghost use Rattle.rv64_hart.specs.Counts.{OnlyTrace};
 ghost use Rattle.rv64_hart.specs.Endings.{IfLeft, IfPlain, IfRaised, NoneDueIfQuiet, KeepsContext, attempt_at, attempt_by, attempt_of_effect, attempt_of_word, counted_of, told_by, told_of};
 ghost use Rattle.rv64_hart.specs.MachineMemory.{mmu_on};
-ghost use Rattle.rv64_hart.specs.Steps.{Exits, attempt_of, found_at_exit, hart_step, next_attempt, one_more_step, progress, progressed, trapped_to, with_first, with_found_on};
+ghost use Rattle.rv64_hart.specs.Steps.{Exits, attempt_of, found_at_exit, hart_step, next_attempt, one_more_step, progress, progressed, trapped_to, caching_found, with_found_on};
 
 use crate::accesses::{fetch_place, load_data, store_data, word_at};
 use crate::endings::{Ended, StepEnd, raise, raise_interrupt};
@@ -80,7 +80,7 @@ fn trap_to_target(
 ) -> StepEnd
     requires serves { ServesHart buffer.old state.old memory.now }
     ensures ends { (trace : ℕ) → trace < 2 ^ 64 → progressed watch trace
-        (trapped_to (with_first state.old (found_at_exit state.old memory.now)) memory.now trap.now
+        (trapped_to (caching_found state.old (found_at_exit state.old memory.now)) memory.now trap.now
         (target state.old.virt.csrs state.old.virt.mode trap.now))
         ≡ counted_of result (progress state.new memory.now trace) }
     ensures exits { IfLeft result
@@ -107,7 +107,7 @@ fn trap_to_target(
 #[tactic(auto, using(crate::proofs::FirstFound::filled_both))]
 fn cache_found(state: &mut HartState, memory: &PhysMem, buffer: &mut Buffer)
     requires serves { ServesHart buffer.old state.old memory.now }
-    ensures found { state.new ≡ with_first state.old (found_at_exit state.old memory.now) }
+    ensures found { state.new ≡ caching_found state.old (found_at_exit state.old memory.now) }
     ensures serves { ServesHart buffer.new state.new memory.now }
 {
     let found = found_at_exit(state, memory);

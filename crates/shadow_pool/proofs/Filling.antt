@@ -14,7 +14,7 @@ use Rattle.machine_defs.specs.Fills.{filled_front}
 use Rattle.machine_laws.specs.FrontSpaces.{FrontIs}
 use Rattle.machine_laws.proofs.FrontSpaces.{in_front}
 use Rattle.shadow_pool.specs.declared.slots.Slot.{Slot}
-use Rattle.shadow_pool.specs.Slots.{ArePooled, IsHeld, filled_for, has_key, key_is, space_if, space_of, spaces_in}
+use Rattle.shadow_pool.specs.Slots.{ArePooled, HasSpaceFor, filled_for, has_key, key_is, space_if, space_of, spaces_in}
 use Rattle.shadow_pool.proofs.Entering.{all_spare}
 use Rattle.shadow_pool.proofs.Keys.{not_none}
 use Rattle.shadow_pool.proofs.Ordering.{pairs_first}
@@ -71,12 +71,12 @@ filled_spaces key most (slot ∷ slots) (suc i) d after entry inside is before s
 
 -- where no table is for it, no space is
 pub none_held : (key : GuestRoot) (slots : List Slot) → ((k : ℕ) (d : Slot) → k < length slots → has_key key (get_or slots k d) ≡ false)
-    → IsHeld key (spaces_in slots) → ⊥
+    → HasSpaceFor key (spaces_in slots) → ⊥
 none_held key [] none held = held
 none_held key (slot ∷ slots) none held =
     by slot.key (none 0 slot (omega arith)) (none_held key slots (λ k d inside. none (suc k) d (omega (arith, inside)))) held
   where
-    by : (o : Option GuestRoot) → key_is key o ≡ false → (IsHeld key (spaces_in slots) → ⊥) → IsHeld key (cons_option (space_if o slot.space.entries) (spaces_in slots)) → ⊥
+    by : (o : Option GuestRoot) → key_is key o ≡ false → (HasSpaceFor key (spaces_in slots) → ⊥) → HasSpaceFor key (cons_option (space_if o slot.space.entries) (spaces_in slots)) → ⊥
     by None differ later held = later held
     by (Some other) differ later (inl is) = let same : is_root other key ≡ true = is in let not_same : is_root other key ≡ false = differ in absurd cc
     by (Some other) differ later (inr held) = later held
@@ -86,12 +86,12 @@ pub filled_in_front : (key : GuestRoot) (most : ℕ) (spaces : List Space) (entr
 filled_in_front key most [] entry front = refl
 filled_in_front key most (s ∷ ss) entry front = let same : is_root s.key key ≡ true = ap (λ k. is_root k key) front ∙ root_is key in rw same refl
 
-pub front_held : (key : GuestRoot) (spaces : List Space) → FrontIs key spaces → IsHeld key spaces
+pub front_held : (key : GuestRoot) (spaces : List Space) → FrontIs key spaces → HasSpaceFor key spaces
 front_held key [] front = front
 front_held key (s ∷ ss) front = inl (ap (λ k. is_root k key) front ∙ root_is key)
 
 -- so the space that was entered is one
-pub entered_held : (most : ℕ) (key : GuestRoot) (spaces after : List Space) → 1 ≤ most → after ≡ entered most key spaces → IsHeld key after
+pub entered_held : (most : ℕ) (key : GuestRoot) (spaces after : List Space) → 1 ≤ most → after ≡ entered most key spaces → HasSpaceFor key after
 entered_held most key spaces after some is = rw is (front_held key (entered most key spaces) (in_front most key spaces some))
 
 -- all tables after a fence

@@ -40,9 +40,9 @@ abbrev pub is_spare : Slot → Bool
 is_spare slot = is_none slot.key
 
 -- a space is for a value of hgatp
-abbrev pub IsHeld : GuestRoot → List Space → Type 0
-IsHeld key [] = ⊥
-IsHeld key (s ∷ ss) = (is_for key s ≡ true) ⊎ IsHeld key ss
+abbrev pub HasSpaceFor : GuestRoot → List Space → Type 0
+HasSpaceFor key [] = ⊥
+HasSpaceFor key (s ∷ ss) = (is_for key s ≡ true) ⊎ HasSpaceFor key ss
 
 -- an entry is filled into the space for a value of hgatp, with room for that many
 abbrev pub filled_for : GuestRoot → ℕ → List Space → Entry → List Space

@@ -8,7 +8,7 @@ ghost use Rattle.arch_defs.specs.Spaces.{entered, fenced, front};
 ghost use Rattle.shadow_space.specs.Moves.{IsMovedPart};
 ghost use Rattle.shadow_space.specs.Shadows.{AreZeros};
 ghost use Rattle.shadow_pool.specs.Moves.{pool_in_part};
-ghost use Rattle.shadow_pool.specs.Slots.{AreFolded, AreSpare, IsHeld, IsSpare, KeepsPool, TidyPool, filled_for, front_root, pool_frames, room_of, space_at, spaces_of};
+ghost use Rattle.shadow_pool.specs.Slots.{AreFolded, AreSpare, HasSpaceFor, IsSpare, KeepsPool, TidyPool, filled_for, front_root, pool_frames, room_of, space_at, spaces_of};
 
 use crate::slots::{Slot, enter, entries_at, fence, fill, is_on_device, key_at, move_to, used};
 use arch_defs::{Access, Entry, Fence, Key, Part};
@@ -65,7 +65,7 @@ impl Pool {
     pub fn enter(&mut self, mem: &mut PhysMem, key: Key) -> u64
         requires tidy { TidyPool self.old mem.old }
         ensures spaces { spaces_of self.new ≡ entered (room_of self.old) key (spaces_of self.old) }
-        ensures held { IsHeld key (spaces_of self.new) }
+        ensures held { HasSpaceFor key (spaces_of self.new) }
         ensures root { result ≡ front_root self.new.slots }
         ensures aligned { result % 4 ≡ 0 }
         ensures small { result < 2 ^ 44 }
@@ -99,7 +99,7 @@ impl Pool {
     /// and else, where there are as many as there may be, the oldest one.
     pub fn fill(&mut self, mem: &mut PhysMem, key: Key, entry: Entry)
         requires tidy { TidyPool self.old mem.old }
-        requires held { IsHeld key (spaces_of self.old) }
+        requires held { HasSpaceFor key (spaces_of self.old) }
         requires entry { CanFill self.old.part.blocks entry }
         ensures spaces { spaces_of self.new ≡ filled_for key self.old.most (spaces_of self.old) entry }
         ensures root { front_root self.new.slots ≡ front_root self.old.slots }

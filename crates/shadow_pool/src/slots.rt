@@ -9,7 +9,7 @@ ghost use Rattle.shadow_space.specs.Moves.{IsMovedPart};
 ghost use Rattle.shadow_space.specs.Shadows.{KeepsSpace, Tidy, own_frames};
 ghost use Rattle.shadow_pool.specs.declared.slots.Slot.{Slot};
 ghost use Rattle.shadow_pool.specs.Moves.{pool_in_part, slot_in_part};
-ghost use Rattle.shadow_pool.specs.Slots.{AreFolded, ComesBefore, IsHeld, KeepsPool, TidyPool, filled_for, front_root, has_key, is_spare, most_of, part_of, pool_frames, pool_of, space_at, space_of, spaces_in};
+ghost use Rattle.shadow_pool.specs.Slots.{AreFolded, ComesBefore, HasSpaceFor, KeepsPool, TidyPool, filled_for, front_root, has_key, is_spare, most_of, part_of, pool_frames, pool_of, space_at, space_of, spaces_in};
 
 use arch_defs::{Access, Entry, Fence, Key, Part};
 use phys_mem::PhysMem;
@@ -37,7 +37,7 @@ impl Model for Slot {
 pub fn enter(slots: &mut [Slot], mem: &mut PhysMem, key: Key)
     requires { TidyPool (pool_of slots.old) mem.old }
     ensures spaces { spaces_in slots.new ≡ entered (length slots.old) key (spaces_in slots.old) }
-    ensures held { IsHeld key (spaces_in slots.new) }
+    ensures held { HasSpaceFor key (spaces_in slots.new) }
     ensures keeps { KeepsPool (pool_of slots.old) mem.old (pool_of slots.new) mem.new }
     ensures tidy { TidyPool (pool_of slots.new) mem.new }
     ensures folded { AreFolded slots.new mem.new }
@@ -157,7 +157,7 @@ fn renew(slot: &mut Slot, mem: &mut PhysMem, key: Key)
 /// Fills an entry of the space for a value of hgatp, which has one.
 pub fn fill(slots: &mut [Slot], mem: &mut PhysMem, key: Key, entry: Entry)
     requires tidy { TidyPool (pool_of slots.old) mem.old }
-    requires held { IsHeld key (spaces_in slots.old) }
+    requires held { HasSpaceFor key (spaces_in slots.old) }
     requires entry { CanFill (part_of slots.old).blocks entry }
     ensures spaces { spaces_in slots.new ≡ filled_for key (most_of slots.old) (spaces_in slots.old) entry }
     ensures root { front_root slots.new ≡ front_root slots.old }

@@ -7,7 +7,7 @@ use Rattle.std.proofs.lemmas.List.Edits.{get_or-remove_above, get_or-remove_belo
 use Rattle.std.proofs.lemmas.List.Elements.{All-tail}
 use Rattle.arch_defs.specs.declared.cached.Entry.{Entry}
 use Rattle.arch_defs.specs.CachedEntries.{HasOtherPage, entry_at, filled, newest, without}
-use Rattle.shadow_space.specs.Leaves.{leaf_if, leaves}
+use Rattle.shadow_space.specs.Leaves.{leaf_word_if, leaves}
 
 -- what holds of all
 pub all_removed : (P : Entry → Type 0) (xs : List Entry) (i : ℕ) → i < length xs → All P xs → All P (remove xs i)
@@ -25,7 +25,7 @@ entry_other (x ∷ xs) (suc i) d page inside other = ap (λ o. cond (x.page == p
 
 pub leaf_other : (blocks : List ℕ) (xs : List Entry) (i : ℕ) (d : Entry) (page : ℕ) → i < length xs → page ≢ (get_or xs i d).page → leaves blocks (remove xs i) page ≡ leaves blocks xs page
 unfolding leaves
-leaf_other blocks xs i d page inside other = ap (leaf_if blocks) (entry_other xs i d page inside other)
+leaf_other blocks xs i d page inside other = ap (leaf_word_if blocks) (entry_other xs i d page inside other)
 
 -- and that one has none
 none_at : (xs : List Entry) (page : ℕ) → All (λ y. y.page ≢ page) xs → entry_at page xs ≡ None
@@ -46,7 +46,7 @@ entry_gone (x ∷ xs) (suc i) d inside pages =
 
 pub leaf_gone : (blocks : List ℕ) (xs : List Entry) (i : ℕ) (d : Entry) → i < length xs → AllPairs HasOtherPage xs → leaves blocks (remove xs i) (get_or xs i d).page ≡ 0
 unfolding leaves
-leaf_gone blocks xs i d inside pages = ap (leaf_if blocks) (entry_gone xs i d inside pages)
+leaf_gone blocks xs i d inside pages = ap (leaf_word_if blocks) (entry_gone xs i d inside pages)
 
 -- the entries of other pages
 pub without_none : (xs : List Entry) (page : ℕ) → All (λ y. y.page ≢ page) xs → without page xs ≡ xs

@@ -5,7 +5,7 @@ use Rattle.std.proofs.lemmas.Bool.{cases_Bool, eq-eqb, ne_eqb, eqb-true}
 use Rattle.std.proofs.lemmas.List.Elements.{All-tail}
 use Rattle.arch_defs.specs.declared.cached.Entry.{Entry}
 use Rattle.arch_defs.specs.CachedEntries.{HasOtherPage, entry_at}
-use Rattle.shadow_space.specs.Leaves.{leaf_if, leaf_word, leaves}
+use Rattle.shadow_space.specs.Leaves.{leaf_word_if, leaf_word, leaves}
 
 -- another page has the entry that it had
 entry_there : (xs : List Entry) (e : Entry) (page : ℕ) → page ≢ e.page → entry_at page (xs ++ e ∷ []) ≡ entry_at page xs
@@ -22,11 +22,11 @@ entry_here (x ∷ xs) e others =
 -- so of leaves
 pub leaf_here : (blocks : List ℕ) (xs : List Entry) (e : Entry) → All (λ x. HasOtherPage x e) xs → leaves blocks (xs ++ e ∷ []) e.page ≡ leaf_word blocks e
 unfolding leaves
-leaf_here blocks xs e others = ap (leaf_if blocks) (entry_here xs e others)
+leaf_here blocks xs e others = ap (leaf_word_if blocks) (entry_here xs e others)
 
 pub leaf_there : (blocks : List ℕ) (xs : List Entry) (e : Entry) (page : ℕ) → page ≢ e.page → leaves blocks (xs ++ e ∷ []) page ≡ leaves blocks xs page
 unfolding leaves
-leaf_there blocks xs e page other = ap (leaf_if blocks) (entry_there xs e page other)
+leaf_there blocks xs e page other = ap (leaf_word_if blocks) (entry_there xs e page other)
 
 pub no_leaf : (blocks : List ℕ) (page : ℕ) → leaves blocks [] page ≡ 0
 unfolding leaves

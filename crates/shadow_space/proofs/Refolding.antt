@@ -12,7 +12,7 @@ use Rattle.shadow_space.specs.declared.frames.TableFrames.{TableFrames}
 use Rattle.shadow_space.specs.declared.writing.Tables.{Tables}
 use Rattle.shadow_space.specs.Folding.{Folded}
 use Rattle.shadow_space.specs.Held.{Holds, HoldsList, Stands, held_in, number_of}
-use Rattle.shadow_space.specs.Leaves.{leaf_if, leaf_word, leaves}
+use Rattle.shadow_space.specs.Leaves.{leaf_word_if, leaf_word, leaves}
 use Rattle.shadow_space.specs.Moves.{IsMovedPart}
 use Rattle.shadow_space.specs.Reaching.{FreeAreZeros}
 use Rattle.shadow_space.specs.Shadows.{HasSmallNumbers, IsShadow, Tidy, shadow_of, tables_in}
@@ -75,7 +75,7 @@ module _ (tables : Tables) (blocks moved : List ℕ) (most : ℕ) (entries : Lis
     leaf = leaves blocks entries;
     stands = holds.stands;
     done = λ j d before h. absurd (omega (arith, before));
-    none = λ page gone. ap (leaf_if blocks) gone;
+    none = λ page gone. ap (leaf_word_if blocks) gone;
     only = only_none (frames_of tables) old;
   }
 
@@ -159,7 +159,7 @@ module _ (tables : Tables) (blocks moved : List ℕ) (most : ℕ) (entries : Lis
 
     -- in the end the leaves are those of the blocks
     module _ (all : length entries ≤ i) where
-      same_leaf : (page : ℕ) (o : Option Entry) → entry_at page entries ≡ o → so.leaf page ≡ leaf_if moved o
+      same_leaf : (page : ℕ) (o : Option Entry) → entry_at page entries ≡ o → so.leaf page ≡ leaf_word_if moved o
       same_leaf page None is = so.none page is
       same_leaf page (Some e) is =
           let found = found_has (λ x. so.leaf x.page ≡ leaf_word moved x) page entries e (λ k d h. so.done k d (omega (arith, h, all)) h) is in

@@ -22,7 +22,7 @@ use Rattle.guest_specs.specs.Needs.{tables_for}
 use Rattle.shadow_space.specs.Laws.{TidyIsFolded, TidyLasts}
 use Rattle.shadow_space.specs.declared.frames.TableFrames.{TableFrames}
 use Rattle.shadow_space.specs.Held.{HoldsList, IsKept, Stands, held_in, number_of, Holds, KeepsTable}
-use Rattle.shadow_space.specs.Leaves.{frame_of_ram, leaf_if, leaf_parts, leaf_word, leaves}
+use Rattle.shadow_space.specs.Leaves.{frame_of_ram, leaf_word_if, leaf_parts, leaf_word, leaves}
 use Rattle.shadow_space.specs.Shadows.{AreZeros, HasSmallNumbers, IsShadow, IsTidy, Shadow, Tidy, own_frames, root_of, tables_in, shadow_of}
 use Rattle.shadow_space.specs.Trees.{HasTables, IsOwn, RootIsApart, folded_shape, frames_of, most_entries, top}
 use Rattle.table_words.specs.Words.{doubleword_at}
@@ -154,7 +154,7 @@ every frame = let one : frame % 1 ≡ 0 = omega arith in rw one refl
 
 -- the leaf of a page ends the walk as its entry does
 leaf_is_end : (blocks : List ℕ) (access : Access) (o : Option Entry) → ((i : ℕ) → slice_index blocks i < 2 ^ 32) → ((e : Entry) → o ≡ Some e → CanFill blocks e)
-    → entry_next 0 access (pte_of (leaf_if blocks o)) ≡ Ends (leaf_end blocks access o)
+    → entry_next 0 access (pte_of (leaf_word_if blocks o)) ≡ Ends (leaf_end blocks access o)
 leaf_is_end blocks access None small can = zero_maps_nothing 0 access
 leaf_is_end blocks access (Some e) small can = by (is_device e) refl
   where
@@ -217,9 +217,9 @@ module _ (space : Shadow) (memory : List ℕ) (tidy : IsTidy space memory) where
   leaf_has : (page : ℕ) (e : Entry) → entry_at page space.entries ≡ Some e → is_device e ≡ false → (pte_of (leaves space.part.blocks space.entries page) ≡ leaf_parts space.part.blocks e) × (leaves space.part.blocks space.entries page ≢ 0)
   unfolding leaves
   leaf_has page e found off = (
-    ap (λ o. pte_of (leaf_if space.part.blocks o)) found ∙ ap pte_of (leaf_off space.part.blocks e off)
+    ap (λ o. pte_of (leaf_word_if space.part.blocks o)) found ∙ ap pte_of (leaf_off space.part.blocks e off)
         ∙ reads_back (leaf_parts space.part.blocks e) (record { frame = frame_small space.part.blocks e tidy.is.small.blocks; reserved = omega arith }),
-    λ zero. leaf_some space.part.blocks e off (ap (leaf_if space.part.blocks) (sym found) ∙ zero),
+    λ zero. leaf_some space.part.blocks e off (ap (leaf_word_if space.part.blocks) (sym found) ∙ zero),
   )
 
   leaf_last : (reading : EntryReading) (va : ℕ) (access : Access) (e : Entry) → ReadsIn (own_frames space) memory reading → entry_at (va / 4096) space.entries ≡ Some e

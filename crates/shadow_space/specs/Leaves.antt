@@ -19,10 +19,10 @@ leaf_parts blocks e = leaf_to (frame_of_ram blocks e.frame) e.r e.w e.x
 abbrev pub leaf_word : List ℕ → Entry → ℕ
 leaf_word blocks e = if is_device e then 0 else pte_word (leaf_parts blocks e)
 
-abbrev pub leaf_if : List ℕ → Option Entry → ℕ
-leaf_if blocks None = 0
-leaf_if blocks (Some e) = leaf_word blocks e
+abbrev pub leaf_word_if : List ℕ → Option Entry → ℕ
+leaf_word_if blocks None = 0
+leaf_word_if blocks (Some e) = leaf_word blocks e
 
 -- the leaf of each page
 unfoldable pub leaves : List ℕ → List Entry → ℕ → ℕ
-leaves blocks entries page = leaf_if blocks (entry_at page entries)
+leaves blocks entries page = leaf_word_if blocks (entry_at page entries)

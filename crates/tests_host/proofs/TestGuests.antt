@@ -42,5 +42,5 @@ kept_boots name kept is = record {
   each = All-cons IsBootableSource (Kept name kept) [] is (All-nil IsBootableSource);
 }
 
-pub kept_fits : (name : List ℕ) (kept : SavedMachine) → saved.need_of kept.machine ≡ record { blocks = 1; spaces = 1; entries = 16 } → frames_with (needs_of_sources (Kept name kept ∷ [])) 1 ≤ 1081
+pub kept_fits : (name : List ℕ) (kept : SavedMachine) → saved.machine_need kept.machine ≡ record { blocks = 1; spaces = 1; entries = 16 } → frames_with (needs_of_sources (Kept name kept ∷ [])) 1 ≤ 1081
 kept_fits name kept is = omega (arith, ap frames_needed is)

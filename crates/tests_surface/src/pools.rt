@@ -4,7 +4,7 @@
 
 ghost use Rattle.std.specs.Prelude.{◌≡◌, ◌≤◌, ◌<◌, length, IfOk, IfSome};
 ghost use Rattle.arch_defs.specs.Frames.{most_frames};
-ghost use Rattle.shadow_pool.specs.Slots.{IsHeld, TidyPool, spaces_of};
+ghost use Rattle.shadow_pool.specs.Slots.{HasSpaceFor, TidyPool, spaces_of};
 
 use arch_defs::{Entry, Fence, GuestMode, GuestRoot, Key, Part, TABLES_PER_ENTRY};
 use no_memory::NoMemory;
@@ -75,7 +75,7 @@ const PAGE: Entry = Entry {
 fn fill(machine: &mut Machine, key: Key)
     requires tidy { TidyPool machine.old.pool machine.old.mem }
     requires blocks { length machine.old.pool.part.blocks ≡ 2 }
-    requires held { IsHeld key (spaces_of machine.old.pool) }
+    requires held { HasSpaceFor key (spaces_of machine.old.pool) }
     ensures tidy { TidyPool machine.new.pool machine.new.mem }
     ensures blocks { length machine.new.pool.part.blocks ≡ 2 }
 {
@@ -87,7 +87,7 @@ fn enter(machine: &mut Machine, key: Key)
     requires blocks { length machine.old.pool.part.blocks ≡ 2 }
     ensures tidy { TidyPool machine.new.pool machine.new.mem }
     ensures blocks { length machine.new.pool.part.blocks ≡ 2 }
-    ensures held { IsHeld key (spaces_of machine.new.pool) }
+    ensures held { HasSpaceFor key (spaces_of machine.new.pool) }
 {
     let _root: u64 = machine.pool.enter(&mut machine.mem, key);
 }

@@ -17,7 +17,7 @@ use Rattle.translation_buffer.specs.declared.pages.Page.{Page}
 use Rattle.translation_buffer.specs.declared.slots.Slot.{Slot}
 use Rattle.translation_buffer.specs.Places.{Translator, context_of, translated_place, translator}
 use Rattle.translation_buffer.specs.Serving.{PageStands, Serves, SlotStands}
-use Rattle.translation_buffer.specs.Tags.{run_bits, start_of, tag_of, who_bits}
+use Rattle.translation_buffer.specs.Tags.{run_bits, start_of, page_tag, who_bits}
 use Rattle.translation_buffer.proofs.KeptSlots.{among_held, kept_tag}
 
 -- no page
@@ -46,7 +46,7 @@ own_frame : (frame va place : ℕ) → place ≡ 4096 * frame + va % 4096 → pl
 own_frame frame va place is = omega (arith, is)
 
 pub slot_page : (read : FrameSet) (memory : List ℕ) (under : Translator) (run : ℕ) (who : Privilege) (va place : ℕ) (slot : Slot) (page : Page) → SlotStands read memory under run Fetch slot
-    → slot.tag ≡ tag_of run who va → place ≡ 4096 * slot.frame + va % 4096 → page.start ≡ va / 4096 * 4096
+    → slot.tag ≡ page_tag run who va → place ≡ 4096 * slot.frame + va % 4096 → page.start ≡ va / 4096 * 4096
     → ((near : ℕ) → near < 2 ^ 64 → near / 4096 ≡ va / 4096 → (near + page.delta) % 2 ^ 64 ≡ 4096 * (place / 4096) + near % 4096)
     → PageStands (has_frame read) memory under who page
 slot_page read memory under run who va place slot page stands tag at start places = record {

@@ -27,7 +27,7 @@ use Rattle.stage_walk.specs.Reads.{Each, LiesIn}
 use Rattle.stage_walk.proofs.Chains.{walks_alike}
 use Rattle.two_stage_walk.specs.Reads.{SecondReads}
 use Rattle.translation_buffer.specs.Laws.{TranslationsStay}
-use Rattle.translation_buffer.specs.Places.{passed, passed_by, placed_at, second_in, translated_place}
+use Rattle.translation_buffer.specs.Places.{passed_under, passed_by, placed_at, second_in, translated_place}
 use Rattle.translation_buffer.proofs.OnePage.{same_some, second_near}
 
 -- readings that agree where something holds of a multiple of 8 agree on entries of which it holds
@@ -141,9 +141,9 @@ own_offset near address place = omega arith
 
 pub translations_stay : TranslationsStay
 translations_stay frames under who memory other va near place access size reads is same one =
-    by (passed under who va access) refl is
+    by (passed_under under who va access) refl is
   where
-    by : (found : Option ℕ) → passed under who va access ≡ found → placed_at (second_in under.context memory) access found ≡ Some place
+    by : (found : Option ℕ) → passed_under under who va access ≡ found → placed_at (second_in under.context memory) access found ≡ Some place
         → translated_place under who other near access ≡ Some (4096 * (place / 4096) + near % 4096)
     by (Some address) at placed =
         let whole : length other % 4096 ≡ 0 = rw same.size size in

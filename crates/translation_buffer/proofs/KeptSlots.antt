@@ -21,7 +21,7 @@ use Rattle.translation_buffer.specs.declared.slots.Slot.{Slot}
 use Rattle.translation_buffer.specs.declared.slots.Slots.{Slots}
 use Rattle.translation_buffer.specs.Places.{Reads, Translator, context_of, translated_place, translator}
 use Rattle.translation_buffer.specs.Serving.{AllStand, Serves, SlotStands, GivesPlaces}
-use Rattle.translation_buffer.specs.Tags.{AllUpTo, run_bits, slots_of, tag_of}
+use Rattle.translation_buffer.specs.Tags.{AllUpTo, run_bits, slots_of, page_tag}
 use Rattle.translation_buffer.proofs.KeptPlaces.{translations_stay}
 use Rattle.translation_buffer.proofs.SlotKinds.{all_alike, each_kind}
 use Rattle.translation_buffer.proofs.PageTags.{later_tag, none_of_tag, tag_small, tag_tells, tag_up_to}
@@ -48,7 +48,7 @@ next_stands read memory under run slots all kind k d inside = record {
 
 -- a walk's
 pub walk_stands : (frames : Frames) (memory : List ℕ) (under : Translator) (run : ℕ) (who : Privilege) (va place : ℕ) (kind : Access) (slot : Slot) → length memory % 4096 ≡ 0 → va < 2 ^ 64
-    → Reads frames under who memory va kind → translated_place under who memory va kind ≡ Some place → slot.tag ≡ tag_of run who va → slot.frame ≡ place / 4096
+    → Reads frames under who memory va kind → translated_place under who memory va kind ≡ Some place → slot.tag ≡ page_tag run who va → slot.frame ≡ place / 4096
     → GivesPlaces frames memory under run kind slot
 walk_stands frames memory under run who va place kind slot whole small reads is tag frame = record {
   place = λ other whom near same near_small tagged.
@@ -96,9 +96,9 @@ fits : (n : ℕ) → n < 2 ^ 64 → n % 2 ^ 64 ≡ n
 fits n less = omega (arith, less)
 
 pub kept_tag : (buffer : Buffer) (first : List FirstEntry) (owner : Tag) (csrs : Csrs) (mode : Mode) (memory : List ℕ) (va : ℕ) → Serves buffer first owner csrs mode memory → va < 2 ^ 64
-    → (buffer.who + va / 4096) % 2 ^ 64 ≡ tag_of buffer.run (privilege_of csrs mode) va
+    → (buffer.who + va / 4096) % 2 ^ 64 ≡ page_tag buffer.run (privilege_of csrs mode) va
 kept_tag buffer first owner csrs mode memory va serves small =
-    ap (λ n. (n + va / 4096) % 2 ^ 64) serves.who ∙ fits (tag_of buffer.run (privilege_of csrs mode) va) (tag_small buffer.run (privilege_of csrs mode) va buffer.few small)
+    ap (λ n. (n + va / 4096) % 2 ^ 64) serves.who ∙ fits (page_tag buffer.run (privilege_of csrs mode) va) (tag_small buffer.run (privilege_of csrs mode) va buffer.few small)
 
 pub kept_up_to : (buffer : Buffer) (first : List FirstEntry) (owner : Tag) (csrs : Csrs) (mode : Mode) (memory : List ℕ) (va : ℕ) → Serves buffer first owner csrs mode memory → va < 2 ^ 64
     → (buffer.who + va / 4096) % 2 ^ 64 < run_bits (buffer.run + 1)

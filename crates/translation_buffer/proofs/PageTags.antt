@@ -3,7 +3,7 @@ use Rattle.std.proofs.Common.{◌≡◌, ℕ, ◌+◌, ◌*◌, ◌/◌, ◌^◌
 use Rattle.arch_defs.specs.declared.walks.Privilege.{Privilege}
 use Rattle.translation_buffer.specs.declared.slots.Slot.{Slot}
 use Rattle.translation_buffer.specs.declared.slots.Slots.{Slots}
-use Rattle.translation_buffer.specs.Tags.{AllUpTo, IsUpTo, bit_of, run_bits, tag_of, who_bits}
+use Rattle.translation_buffer.specs.Tags.{AllUpTo, IsUpTo, bit_of, run_bits, page_tag, who_bits}
 
 bit_small : (b : Bool) → bit_of b ≤ 1
 bit_small true = omega arith
@@ -19,19 +19,19 @@ under_run : (who : Privilege) (va : ℕ) → va < 2 ^ 64 → who_bits who + va /
 under_run who va small = bits_small (bit_of who.user) (bit_of who.sum) (bit_of who.mxr) (va / 4096) (bit_small who.user) (bit_small who.sum) (bit_small who.mxr) (page_small va small)
 
 -- a tag of a run is less than those of the next, and is not 0
-pub tag_up_to : (run : ℕ) (who : Privilege) (va : ℕ) → va < 2 ^ 64 → tag_of run who va < run_bits (run + 1)
+pub tag_up_to : (run : ℕ) (who : Privilege) (va : ℕ) → va < 2 ^ 64 → page_tag run who va < run_bits (run + 1)
 tag_up_to run who va small = by run (who_bits who) (va / 4096) (under_run who va small)
   where
     by : (run a b : ℕ) → a + b < 36028797018963968 → 36028797018963968 * (run + 1) + a + b < 36028797018963968 * (run + 1 + 1)
     by run a b less = omega (arith, less)
 
-pub tag_small : (run : ℕ) (who : Privilege) (va : ℕ) → run ≤ 510 → va < 2 ^ 64 → tag_of run who va < 2 ^ 64
-tag_small run who va few small = by run (tag_of run who va) few (tag_up_to run who va small)
+pub tag_small : (run : ℕ) (who : Privilege) (va : ℕ) → run ≤ 510 → va < 2 ^ 64 → page_tag run who va < 2 ^ 64
+tag_small run who va few small = by run (page_tag run who va) few (tag_up_to run who va small)
   where
     by : (run tag : ℕ) → run ≤ 510 → tag < 36028797018963968 * (run + 1 + 1) → tag < 2 ^ 64
     by run tag few less = omega (arith, few, less)
 
-pub tag_some : (run : ℕ) (who : Privilege) (va : ℕ) → 0 < tag_of run who va
+pub tag_some : (run : ℕ) (who : Privilege) (va : ℕ) → 0 < page_tag run who va
 tag_some run who va = by run (who_bits who) (va / 4096)
   where
     by : (run a b : ℕ) → 0 < 36028797018963968 * (run + 1) + a + b
@@ -54,7 +54,7 @@ who_same who other user sum mxr = rw (user, sum, mxr) refl
 same_under : (r a b c d : ℕ) → r + a + b ≡ r + c + d → a + b ≡ c + d
 same_under r a b c d same = omega (arith, same)
 
-pub tag_tells : (run : ℕ) (who other : Privilege) (va near : ℕ) → va < 2 ^ 64 → near < 2 ^ 64 → tag_of run who va ≡ tag_of run other near → (who ≡ other) × (va / 4096 ≡ near / 4096)
+pub tag_tells : (run : ℕ) (who other : Privilege) (va near : ℕ) → va < 2 ^ 64 → near < 2 ^ 64 → page_tag run who va ≡ page_tag run other near → (who ≡ other) × (va / 4096 ≡ near / 4096)
 tag_tells run who other va near small near_small same =
     let parts = bits_same (bit_of who.user) (bit_of who.sum) (bit_of who.mxr) (va / 4096) (bit_of other.user) (bit_of other.sum) (bit_of other.mxr) (near / 4096)
     (bit_small who.user) (bit_small who.sum) (bit_small who.mxr) (page_small va small) (bit_small other.user) (bit_small other.sum) (bit_small other.mxr) (page_small near near_small)
@@ -62,8 +62,8 @@ tag_tells run who other va near small near_small same =
     (who_same who other (bit_same who.user other.user parts.0) (bit_same who.sum other.sum parts.1) (bit_same who.mxr other.mxr parts.2), parts.3)
 
 -- no translation
-pub none_of_tag : (run : ℕ) (who : Privilege) (va : ℕ) (slot : Slot) → slot.tag ≡ 0 → slot.tag ≡ tag_of run who va → ⊥
-none_of_tag run who va slot none tag = by (tag_of run who va) (tag_some run who va) (sym none ∙ tag)
+pub none_of_tag : (run : ℕ) (who : Privilege) (va : ℕ) (slot : Slot) → slot.tag ≡ 0 → slot.tag ≡ page_tag run who va → ⊥
+none_of_tag run who va slot none tag = by (page_tag run who va) (tag_some run who va) (sym none ∙ tag)
   where
     by : (n : ℕ) → 0 < n → 0 ≡ n → ⊥
     by n some is = omega (arith, some, is)
@@ -81,7 +81,7 @@ up_to_more run slots all kind k d inside = by run _ (all kind k d inside)
     by : (run tag : ℕ) → tag < 36028797018963968 * (run + 1 + 1) → tag < 36028797018963968 * (run + 1 + 1 + 1)
     by run tag less = omega (arith, less)
 
-pub later_tag : (run : ℕ) (who : Privilege) (va : ℕ) (slot : Slot) → IsUpTo run slot → slot.tag ≡ tag_of (run + 1) who va → ⊥
+pub later_tag : (run : ℕ) (who : Privilege) (va : ℕ) (slot : Slot) → IsUpTo run slot → slot.tag ≡ page_tag (run + 1) who va → ⊥
 later_tag run who va slot up_to tag = by run slot.tag (who_bits who) (va / 4096) up_to tag
   where
     by : (run tag a b : ℕ) → tag < 36028797018963968 * (run + 1 + 1) → tag ≡ 36028797018963968 * (run + 1 + 1) + a + b → ⊥

@@ -27,7 +27,7 @@ use Rattle.arch_defs.specs.TableEntries.{leaf_with, span}
 use Rattle.stage_walk.specs.Ends.{LeafFits}
 use Rattle.two_stage_walk.specs.Places.{IsPlaceOf}
 use Rattle.translation_buffer.specs.declared.contexts.Context.{Context}
-use Rattle.translation_buffer.specs.Places.{Translator, passed, passed_by, placed_at, second_in, translated_place}
+use Rattle.translation_buffer.specs.Places.{Translator, passed_under, passed_by, placed_at, second_in, translated_place}
 use Rattle.translation_buffer.proofs.KeptPlaces.{second_keeps}
 use Rattle.translation_buffer.proofs.OnePage.{same_some}
 
@@ -91,12 +91,12 @@ passed_offset first owner who va address access (root.Table mode asid ppn) is = 
 
 pub placed_inside : (translated : Translator) (who : Privilege) (memory : List ℕ) (va place : ℕ) (access : Access) → length memory % 4096 ≡ 0
     → translated_place translated who memory va access ≡ Some place → IsPlaceOf (machine_memory memory) va place
-placed_inside translated who memory va place access whole is = by (passed translated who va access) refl is
+placed_inside translated who memory va place access whole is = by (passed_under translated who va access) refl is
   where
     context : Context
     context = translated.context
 
-    by : (found : Option ℕ) → passed translated who va access ≡ found → placed_at (second_in context memory) access found ≡ Some place → IsPlaceOf (machine_memory memory) va place
+    by : (found : Option ℕ) → passed_under translated who va access ≡ found → placed_at (second_in context memory) access found ≡ Some place → IsPlaceOf (machine_memory memory) va place
     by (Some address) at placed = record {
       from = omega arith;
       to = second_inside memory context.mxr context.second address place access placed;

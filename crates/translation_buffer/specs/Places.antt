@@ -47,8 +47,8 @@ passed_by first owner who root.Bare va access = Some va
 passed_by first owner who (root.Table mode asid ppn) va access =
     known_under first owner who (root.Table mode asid ppn) va access
 
-abbrev pub passed : Translator → Privilege → ℕ → Access → Option ℕ
-passed under who va access = passed_by under.first under.owner who under.context.first va access
+abbrev pub passed_under : Translator → Privilege → ℕ → Access → Option ℕ
+passed_under under who va access = passed_by under.first under.owner who under.context.first va access
 
 -- its place, by the second stage
 abbrev pub placed_at : SecondStage → Access → Option ℕ → Option ℕ
@@ -59,7 +59,7 @@ placed_at second access (Some address) = second address access
 -- this function of memory alone
 abbrev pub translated_place : Translator → Privilege → List ℕ → ℕ → Access → Option ℕ
 translated_place under who memory va access =
-    placed_at (second_in under.context memory) access (passed under who va access)
+    placed_at (second_in under.context memory) access (passed_under under who va access)
 
 -- that of an access that the hart makes
 abbrev pub place_on_hart : HartState → List ℕ → ℕ → Access → Option ℕ
@@ -69,5 +69,5 @@ place_on_hart s memory va access =
 
 -- all entries that the second stage reads for it lie in these frames
 abbrev pub Reads : Frames → Translator → Privilege → List ℕ → ℕ → Access → Type 0
-Reads frames under who memory va access = (address : ℕ) → passed under who va access ≡ Some address
+Reads frames under who memory va access = (address : ℕ) → passed_under under who va access ≡ Some address
     → SecondReads frames (machine_memory memory) address access under.context.second

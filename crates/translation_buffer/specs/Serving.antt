@@ -19,14 +19,14 @@ use Rattle.translation_buffer.specs.declared.pages.Page.{Page}
 use Rattle.translation_buffer.specs.declared.slots.Slot.{Slot}
 use Rattle.translation_buffer.specs.declared.slots.Slots.{Slots}
 use Rattle.translation_buffer.specs.Places.{Translator, context_of, translated_place, translator}
-use Rattle.translation_buffer.specs.Tags.{run_bits, slots_of, start_of, tag_of, who_bits}
+use Rattle.translation_buffer.specs.Tags.{run_bits, slots_of, start_of, page_tag, who_bits}
 
 -- a slot says, in each memory in which these frames are the same, where each address with its tag in a run
 -- has its place
 pub record GivesPlaces (frames : Frames) (memory : List ℕ) (under : Translator) (run : ℕ) (kind : Access)
     (slot : Slot) : Type 0 where
   pub place : (other : List ℕ) (who : Privilege) (va : ℕ) → Same frames memory other → va < 2 ^ 64
-      → slot.tag ≡ tag_of run who va
+      → slot.tag ≡ page_tag run who va
       → translated_place under who other va kind ≡ Some (4096 * slot.frame + va % 4096)
 
 -- a slot stands by the frames of a set whose bits it has
@@ -58,7 +58,7 @@ is_page None own = false
 is_page (Some page) own = own == page
 
 pub record LacksPages (page : ℕ) (other : Option ℕ) (slot : Slot) : Type 0 where
-  pub apart : (run : ℕ) (who : Privilege) (va : ℕ) → va < 2 ^ 64 → slot.tag ≡ tag_of run who va
+  pub apart : (run : ℕ) (who : Privilege) (va : ℕ) → va < 2 ^ 64 → slot.tag ≡ page_tag run who va
       → (va / 4096 ≢ page) × (is_page other (va / 4096) ≡ false)
 
 abbrev pub AllLackPages : ℕ → Option ℕ → Slots → Type 0

@@ -20,8 +20,8 @@ abbrev pub run_bits : ℕ → ℕ
 run_bits run = 2 ^ 55 * (run + 1)
 
 -- the tag of the page of an address in a run, for whom the access is made
-abbrev pub tag_of : ℕ → Privilege → ℕ → ℕ
-tag_of run who va = run_bits run + who_bits who + va / 4096
+abbrev pub page_tag : ℕ → Privilege → ℕ → ℕ
+page_tag run who va = run_bits run + who_bits who + va / 4096
 
 -- the start of an address's page, if the address is a multiple of 4, and else no start of a page
 abbrev pub start_of : ℕ → ℕ

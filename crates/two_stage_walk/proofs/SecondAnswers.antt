@@ -20,10 +20,10 @@ use Rattle.two_stage_walk.specs.declared.second_answers.SecondAnswer.TheVariants
 use Rattle.two_stage_walk.specs.declared.translating.Place.{Place}
 use Rattle.two_stage_walk.specs.declared.translating.Place.TheVariants as made
 use Rattle.two_stage_walk.specs.Answers.{placed, placed_if}
-use Rattle.two_stage_walk.specs.SecondAnswers.{answer_at_end, answer_under, is_device_answer, made_by, place_of, trap_of}
+use Rattle.two_stage_walk.specs.SecondAnswers.{answer_at_end, answer_under, is_device_answer, place_or_fault, place_in_memory, trap_of}
 
 -- the place, the device page and the trap
-pub place_alike : (address : ℕ) (end : SecondWalkEnd) → place_of (answer_at_end address end) ≡ place_under address end
+pub place_alike : (address : ℕ) (end : SecondWalkEnd) → place_in_memory (answer_at_end address end) ≡ place_under address end
 place_alike address (Leaf leaf) = refl
 place_alike address (Device leaf) = refl
 place_alike address GuestPageFault = refl
@@ -79,7 +79,7 @@ off_page csrs memory missing true false = refl
 off_page csrs memory missing false implicit = refl
 
 made_by_end : (device : Bool) (csrs : Csrs) (memory : Memory) (missing : MissingPlace) (end : SecondWalkEnd) → missing_place_trap csrs memory missing ≡ missing_place_by missing end
-    → Made device csrs memory missing (is_device_end end) (place_under missing.address end) ≡ made_by device missing (answer_at_end missing.address end)
+    → Made device csrs memory missing (is_device_end end) (place_under missing.address end) ≡ place_or_fault device missing (answer_at_end missing.address end)
 made_by_end device csrs memory missing (Leaf leaf) trap = refl
 made_by_end device csrs memory missing (Device leaf) trap = on_page csrs memory missing device (is_implicit missing.kind) trap
 made_by_end device csrs memory missing GuestPageFault trap = off_page csrs memory missing device (is_implicit missing.kind) ∙ ap Err trap
@@ -87,7 +87,7 @@ made_by_end device csrs memory missing AccessFault trap = off_page csrs memory m
 
 made_bare : (device : Bool) (csrs : Csrs) (memory : Memory) (missing : MissingPlace) (inside page : Bool) → missing_place_trap csrs memory missing ≡ missing_place_fault missing
     → Made device csrs memory missing page (if inside then Some missing.address else None)
-    ≡ made_by device missing (if inside then InMemory missing.address else if page then OnDevice else answer.AccessFault)
+    ≡ place_or_fault device missing (if inside then InMemory missing.address else if page then OnDevice else answer.AccessFault)
 made_bare device csrs memory missing true page trap = refl
 made_bare device csrs memory missing false true trap = on_page csrs memory missing device (is_implicit missing.kind) trap
 made_bare device csrs memory missing false false trap = off_page csrs memory missing device (is_implicit missing.kind) ∙ ap Err trap
@@ -95,7 +95,7 @@ made_bare device csrs memory missing false false trap = off_page csrs memory mis
 made_under : (device : Bool) (csrs : Csrs) (memory : Memory) (mxr : Bool) (missing : MissingPlace) (table : GuestRoot)
     → missing_place_trap csrs memory missing ≡ missing_place_under memory mxr missing table
     → Made device csrs memory missing (device_under memory mxr table missing.address missing.kind) (second_under memory mxr table missing.address missing.kind)
-    ≡ made_by device missing (answer_under memory mxr table missing.address missing.kind)
+    ≡ place_or_fault device missing (answer_under memory mxr table missing.address missing.kind)
 made_under device csrs memory mxr missing root.Bare trap =
     made_bare device csrs memory missing (nat_le memory.base missing.address && nat_lt missing.address (memory.base + length memory.bytes)) (is_on_device missing.address) trap
 made_under device csrs memory mxr missing (root.Table mode vmid ppn) trap =
@@ -103,7 +103,7 @@ made_under device csrs memory mxr missing (root.Table mode vmid ppn) trap =
 
 pub made_alike : (device : Bool) (csrs : Csrs) (memory : Memory) (mode : Mode) (va address : ℕ) (access : Access)
     → placed device csrs memory (located_at mode va access address (second_by_walk csrs mode memory address access))
-    ≡ made_by device (record { address = address; kind = access; access = access; va = va; mode = mode })
+    ≡ place_or_fault device (record { address = address; kind = access; access = access; va = va; mode = mode })
     (answer_under memory csrs.hs.status.mxr (second_root_of csrs mode) address access)
 made_alike device csrs memory mode va address access =
     made_found device csrs memory mode va address access (second_by_walk csrs mode memory address access)

@@ -47,11 +47,11 @@ AnswerIn memory address GuestPageFault = ⊤
 AnswerIn memory address AccessFault = ⊤
 
 -- the place in memory
-abbrev pub place_of : SecondAnswer → Option ℕ
-place_of (InMemory place) = Some place
-place_of OnDevice = None
-place_of GuestPageFault = None
-place_of AccessFault = None
+abbrev pub place_in_memory : SecondAnswer → Option ℕ
+place_in_memory (InMemory place) = Some place
+place_in_memory OnDevice = None
+place_in_memory GuestPageFault = None
+place_in_memory AccessFault = None
 
 -- whether it is on the device page
 abbrev pub is_device_answer : SecondAnswer → Bool
@@ -69,10 +69,10 @@ trap_of missing GuestPageFault = guest_page_trap missing
 trap_of missing AccessFault = missing_place_fault missing
 
 -- where an access is made, or its trap, of a machine that has the device page or not
-abbrev pub made_by : Bool → MissingPlace → SecondAnswer → Result Place Trap
-made_by device missing (InMemory place) = Ok (made.InMemory place)
-made_by device missing OnDevice =
+abbrev pub place_or_fault : Bool → MissingPlace → SecondAnswer → Result Place Trap
+place_or_fault device missing (InMemory place) = Ok (made.InMemory place)
+place_or_fault device missing OnDevice =
     if device && not (is_implicit missing.kind) then Ok (made.OnDevice (missing.address % 4096))
     else Err (missing_place_fault missing)
-made_by device missing GuestPageFault = Err (guest_page_trap missing)
-made_by device missing AccessFault = Err (missing_place_fault missing)
+place_or_fault device missing GuestPageFault = Err (guest_page_trap missing)
+place_or_fault device missing AccessFault = Err (missing_place_fault missing)

@@ -7,7 +7,7 @@ ghost use Rattle.arch_defs.specs.Translation.{unread};
 ghost use Rattle.arch_defs.specs.Walk.{most_levels};
 ghost use Rattle.stage_walk.specs.Ends.{EndFits};
 ghost use Rattle.two_stage_walk.specs.Places.{IsPlaceOf, LeafIn};
-ghost use Rattle.two_stage_walk.specs.SecondAnswers.{place_of};
+ghost use Rattle.two_stage_walk.specs.SecondAnswers.{place_in_memory};
 
 use crate::devices::is_on_device;
 use crate::second_answers::{SecondAnswer, table_answer};
@@ -130,7 +130,7 @@ pub fn second_root_of(csrs: &Csrs, mode: Mode) -> GuestRoot
 // The place in memory, if the access is made there.
 #[inline(always)]
 fn place_of(answer: SecondAnswer) -> Option<u64>
-    ensures { result ≡ place_of answer }
+    ensures { result ≡ place_in_memory answer }
 {
     match answer {
         SecondAnswer::InMemory(place) => Some(place),

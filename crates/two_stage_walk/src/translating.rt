@@ -6,7 +6,7 @@ ghost use Rattle.machine_defs.specs.Answers.{answer_of, located_by_walk};
 ghost use Rattle.machine_defs.specs.Core.{located_by};
 ghost use Rattle.two_stage_walk.specs.Answers.{IsPlaceBy, LiesBy, placed};
 ghost use Rattle.two_stage_walk.specs.Places.{KeepsOffset};
-ghost use Rattle.two_stage_walk.specs.SecondAnswers.{made_by};
+ghost use Rattle.two_stage_walk.specs.SecondAnswers.{place_or_fault};
 
 use crate::second_answers::{SecondAnswer, second_answer};
 use crate::traps::{guest_page_trap, is_implicit, missing_place_trap};
@@ -26,7 +26,7 @@ pub enum Place {
 // Where an access is made of which the second stage makes this, or its trap.
 #[inline(always)]
 fn made_by(device: bool, missing: &MissingPlace, answer: SecondAnswer) -> Result<Place, Trap>
-    ensures { result ≡ made_by device missing.now answer }
+    ensures { result ≡ place_or_fault device missing.now answer }
 {
     match answer {
         SecondAnswer::InMemory(place) => Ok(Place::InMemory(place)),

@@ -65,8 +65,8 @@ handler =
     ∷ []
 
 -- a table entry that names the page or the next table at an address, with its low bits
-abbrev pub entry_for : ℕ → ℕ → ℕ
-entry_for address bits = address / 2 ^ 12 * 2 ^ 10 + bits
+abbrev pub table_entry : ℕ → ℕ → ℕ
+table_entry address bits = address / 2 ^ 12 * 2 ^ 10 + bits
 
 -- the nested guest, which reads the byte that x11 points to and traps; hgatp (Sv39x4, VMID 1, the root's page
 -- number), vsatp (Bare), and the table: root, next level, last level with one page of code (V, R, X, U, A)
@@ -76,9 +76,9 @@ nested =
     ∷ line.OpAt 0x1004 ecall
     ∷ line.DoubleAt 0x400 (8 * 2 ^ 60 + 1 * 2 ^ 44 + 0x80004)
     ∷ line.DoubleAt 0x408 0
-    ∷ line.DoubleAt 0x4000 (entry_for 0x80008000 0b00000001)
-    ∷ line.DoubleAt 0x8000 (entry_for 0x80009000 0b00000001)
-    ∷ line.DoubleAt 0x9000 (entry_for 0x80001000 0b01011011)
+    ∷ line.DoubleAt 0x4000 (table_entry 0x80008000 0b00000001)
+    ∷ line.DoubleAt 0x8000 (table_entry 0x80009000 0b00000001)
+    ∷ line.DoubleAt 0x9000 (table_entry 0x80001000 0b01011011)
     ∷ []
 
 -- the 15 pages of data, each with a letter

@@ -1,5 +1,5 @@
 use Rattle.std.proofs.Common.{[], arith}
-use Rattle.run_config.specs.Records.{byte_at, moment_at}
+use Rattle.run_config.specs.Records.{record_byte, moment_at}
 use Rattle.turn_plan.proofs.Rounds.{place_more}
 use Rattle.run_config.proofs.Recording.{each_whole}
 use Rattle.run_config.proofs.input_records.all_records.Goals as goal
@@ -12,7 +12,7 @@ byte_at-requires c = each_whole _ _ c.requires (rw c.record_count-count.ensures 
 
 pub loop-number-preserved : goal.loop-number-preserved
 loop-number-preserved c = record {
-  items = rw (c.push_reserved.ensures.items, c.moment_at.ensures, c.byte_at.ensures) (place_more (λ number. (moment_at c.args.bytes.now number, byte_at c.args.bytes.now number)) c.loop-number.inputs.items [] c.loop-number.number c.loop-number.invariant.items);
+  items = rw (c.push_reserved.ensures.items, c.moment_at.ensures, c.byte_at.ensures) (place_more (λ number. (moment_at c.args.bytes.now number, record_byte c.args.bytes.now number)) c.loop-number.inputs.items [] c.loop-number.number c.loop-number.invariant.items);
   len = omega (arith, c.push_reserved.ensures.len, c.loop-number.invariant.len);
   room = omega (arith, c.push_reserved.ensures.capacity, c.loop-number.invariant.room);
 }

@@ -2,7 +2,7 @@ use Rattle.std.specs.Prelude.{◌&&◌, ◌%◌, ◌==◌}
 use Rattle.std.proofs.Common.{◌≡◌, refl, subst, sym}
 use Rattle.translation_buffer.specs.Serving.{Serves}
 use Rattle.machine_laws.proofs.KeptFirst.{KeepsFirst, csr_first}
-use Rattle.rv64_hart.specs.Endings.{TranslatesAlike, Unless}
+use Rattle.rv64_hart.specs.Endings.{HasSameTranslation, Unless}
 use Rattle.rv64_hart.proofs.CsrWrites.{EndsAlike, csr_keeps_context}
 use Rattle.rv64_hart.proofs.rare_instructions.register.Goals as goal
 
@@ -16,7 +16,7 @@ pub returns-in-Ok-clause-serves : goal.returns-in-Ok-clause-serves
 returns-in-Ok-clause-serves c =
     let keeps : c.access_csr.new.state.first ≡ c.args.state.now.virt.first =
     subst (KeepsFirst c.args.state.now.virt) (c.in-Ok.ensures.ends c.args.word) (csr_first c.args.state.now.virt c.args.word c.args.op c.args.number _ _ c.args.rd) in
-    let stays : Unless c.changes_context.result (TranslatesAlike c.args.state.now.virt.csrs c.args.state.now.virt.mode c.access_csr.new.state.csrs c.access_csr.new.state.mode) =
+    let stays : Unless c.changes_context.result (HasSameTranslation c.args.state.now.virt.csrs c.args.state.now.virt.mode c.access_csr.new.state.csrs c.access_csr.new.state.mode) =
     rw c.changes_context.ensures (subst (λ o. Unless (c.writes-wrote.result && c.args.number % 128 == 0) (EndsAlike c.args.state.now.virt o)) (c.in-Ok.ensures.ends c.args.word)
     (csr_keeps_context c.args.state.now.virt c.args.word c.args.op c.args.number _ c.writes-wrote.result c.args.rd)) in
     c.settle_access.ensures.serves c.args.state.now.virt.csrs c.args.state.now.virt.mode c.args.memory.now stays

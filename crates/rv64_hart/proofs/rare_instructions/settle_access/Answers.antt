@@ -1,5 +1,5 @@
 use Rattle.std.proofs.Common.{rules, ◌≡◌, false, subst}
-use Rattle.rv64_hart.specs.Endings.{TranslatesAlike, Unless}
+use Rattle.rv64_hart.specs.Endings.{HasSameTranslation, Unless}
 use Rattle.rv64_hart.proofs.Kept.{serves_alike}
 use Rattle.rv64_hart.proofs.rare_instructions.settle_access.Goals as goal
 
@@ -11,5 +11,5 @@ returns-else-changes-clause-serves c =
     let none : c.args.changes ≡ false = search rules in
     λ before mode_before memory same serves.
     serves_alike c.cache.new.buffer c.cache.new.first c.args.state.now.tag before mode_before c.args.state.now.virt.csrs c.args.state.now.virt.mode memory
-    (subst (λ b. Unless b (TranslatesAlike before mode_before c.args.state.now.virt.csrs c.args.state.now.virt.mode)) none same)
+    (subst (λ b. Unless b (HasSameTranslation before mode_before c.args.state.now.virt.csrs c.args.state.now.virt.mode)) none same)
     (c.cache.ensures.serves c.args.state.now.tag before mode_before memory serves)
