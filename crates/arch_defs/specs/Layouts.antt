@@ -4,6 +4,7 @@ use Rattle.std.specs.List.{list_any, list_all}
 use Rattle.arch_defs.specs.Frames.{Frames, within, in_blocks, joined, Apart}
 use Rattle.arch_defs.specs.Ram.{IsDistinct}
 use Rattle.guest_specs.specs.declared.needs.Need.{Need}
+use Rattle.guest_specs.specs.Limits.{most_blocks}
 use Rattle.guest_specs.specs.Needs.{tables_for}
 
 -- its blocks, in the order in which its RAM goes through them; the first frame of its roots, and that of its
@@ -46,9 +47,9 @@ space_frames part i =
     joined (within (part.first_root + 4 * (1 + i)) 4) (within (part.first_table + 1
     + i * tables_for part.entries) (tables_for part.entries))
 
--- there are at most 32 blocks, the roots begin at a multiple of four frames, and no frame is named twice
+-- a guest may have that many blocks, the roots begin at a multiple of four frames, and no frame is named twice
 pub record NamesEachOnce (part : Layout) : Type 0 where
-  pub few : length part.blocks ≤ 32
+  pub few : length part.blocks ≤ most_blocks
   pub distinct : IsDistinct part.blocks
   pub aligned : part.first_root % 4 ≡ 0
   pub tables : Apart (in_blocks part.blocks) (in_tables part)

@@ -10,8 +10,8 @@ use crate::first::{FirstEntry, Tag};
 use crate::roots::SupervisorRoot;
 use std::marker::Model;
 
-// How many are cached at most.
-const FIRST_ROOM: usize = 32;
+/// How many are cached at most.
+pub const FIRST_ROOM: usize = 32;
 
 // What stands in a slot without a translation.
 const NO_ENTRY: FirstEntry = FirstEntry {

@@ -22,8 +22,8 @@ pub use cached::{Entry, Fence};
 pub use csr_names::{CsrEnd, EnableCsr, HypervisorCsr, InterruptCsr, Register, SupervisorCsr};
 pub use devices::DEVICE_FRAME;
 pub use first::{FirstEntry, Tag};
-pub use first_buffers::FirstBuffer;
-pub use guest_specs::{Need, TABLES_PER_ENTRY};
+pub use first_buffers::{FIRST_ROOM, FirstBuffer};
+pub use guest_specs::{MOST_BLOCKS, Need, TABLES_PER_ENTRY};
 pub use hart_states::HartState;
 pub use keys::Key;
 pub use laws::{frames_apart_stay, ram_is_its_blocks};
@@ -38,7 +38,7 @@ pub use modes::{
     LOAD_MISALIGNED, LOAD_PAGE_FAULT, Mode, STORE_ACCESS_FAULT, STORE_GUEST_PAGE_FAULT,
     STORE_MISALIGNED, STORE_PAGE_FAULT, Trap, VIRTUAL_INSTRUCTION,
 };
-pub use parts::{BLOCK_FRAMES, BLOCK_SIZE, FRAME_SIZE, MOST_BLOCKS, MOST_FRAMES, Part};
+pub use parts::{BLOCK_FRAMES, BLOCK_SIZE, FRAME_SIZE, MOST_FRAMES, Part, RAM_BASE};
 pub use registers::{
     Csrs, HypervisorStatus, Interrupts, Reg, Regs, SupervisorCsrs, SupervisorStatus, Virtual,
 };

@@ -6,7 +6,7 @@ ghost use Rattle.arch_defs.specs.Layouts.{Layout, NamesEachOnce, named_by};
 ghost use Rattle.arch_defs.specs.Memory.{block_size};
 ghost use Rattle.arch_defs.specs.Ram.{host_place};
 
-use guest_specs::TABLES_PER_ENTRY;
+use guest_specs::{MOST_BLOCKS, TABLES_PER_ENTRY};
 use std::marker::Model;
 
 /// The bytes of a frame.
@@ -21,8 +21,8 @@ pub const BLOCK_SIZE: u64 = 2_097_152;
 /// The most frames of machine memory (own: 512 MiB).
 pub const MOST_FRAMES: u64 = 131_072;
 
-/// The most blocks of a part.
-pub const MOST_BLOCKS: usize = 32;
+/// Where a guest's RAM begins.
+pub const RAM_BASE: u64 = 0x8000_0000;
 
 /// The frames of machine memory that a guest has: its blocks, in the order in which its RAM goes through
 /// them; its roots, of four frames each, the host table's first and then one for each space; and its other

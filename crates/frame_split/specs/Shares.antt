@@ -6,6 +6,7 @@ use Rattle.frame_split.specs.declared.faults.PlanFault.{PlanFault}
 use Rattle.frame_split.specs.declared.faults.PlanFault.TheVariants.{NoMemory, TooMuch}
 use Rattle.arch_defs.specs.Frames.{in_blocks, Apart, LieIn, most_frames}
 use Rattle.arch_defs.specs.Layouts.{Layout, NamesEachOnce, in_tables, root_frames, table_frames, named_by, Meets}
+use Rattle.guest_specs.specs.Limits.{most_entries, most_spaces}
 use Rattle.guest_specs.specs.Needs.{tables_for, IsNeed, frames_needed}
 
 -- the frames that all of them need
@@ -57,7 +58,7 @@ pub record IsSplit (needs : List Need) (parts : List Layout) (frames : ℕ) : Ty
 
 -- the most tables beside the roots that a need has: one of the host table, and those of its spaces
 abbrev pub most_guest_tables : ℕ
-most_guest_tables = 1 + 8 * tables_for 256
+most_guest_tables = 1 + most_spaces * tables_for most_entries
 
 -- where to go on: the first free block, the first free frame for roots, and that for other tables
 abbrev pub after_need : Need → Free → Free

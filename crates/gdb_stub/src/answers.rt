@@ -11,15 +11,13 @@ ghost use Rattle.gdb_stub.specs.Sessions.{recording_of, machine_shown, state_aft
 use crate::looking::memory;
 use crate::register_texts::{error, number_text, register, registers};
 use crate::sessions::{Move, Session};
+use arch_defs::RAM_BASE;
 use gdb_commands::{Command, Place, Request, StopKind};
 use gdb_packets::hex_of;
 use itoa::Buffer;
 use no_memory::NoMemory;
 use run_positions::Runner;
 use std::alloc::Global;
-
-// Where RAM begins.
-const RAM_BASE: u64 = 0x8000_0000;
 
 // A text of these bytes.
 fn text_of(alloc: Global, bytes: &[u8]) -> Result<Vec<u8>, NoMemory>

@@ -5,7 +5,8 @@ use Rattle.std.proofs.Common.{◌≡◌, ℕ, ◌+◌, ◌<◌, ◌≤◌, Bool,
 use Rattle.std.proofs.lemmas.List.{append-nil, take-append-drop, take-append-le, take_all, take_more}
 use Rattle.std.proofs.lemmas.List.Concat.{flat_map-append}
 use Rattle.std.proofs.Math.Seq.{take-append-add}
-use Rattle.guest_save.specs.Buffers.{Buffers, GivesAll, GivesFront, PutsText}
+use Rattle.guest_save.specs.Buffers.{Buffers, GivesAll, GivesFront}
+use Rattle.outside.specs.Texts.{PutsText}
 use Rattle.outside.proofs.Pieces.{appends_then}
 use Rattle.outside.specs.declared.sinks.Sink as sinks
 use Rattle.outside.specs.Faults.{Rose}

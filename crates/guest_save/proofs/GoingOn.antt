@@ -19,7 +19,8 @@ use Rattle.guest_save.proofs.RoundTrip.{round_trip}
 use Rattle.guest_save.specs.declared.headers.Header.{Header}
 use Rattle.guest_save.specs.declared.versions.Version.TheVariants.{Third}
 use Rattle.guest_save.specs.Headers.{blocks_of, device_numbers, header_numbers, header_of, later_numbers, numbered, progress_numbers, size_numbers, state_numbers}
-use Rattle.guest_save.specs.Laws.{CanStart, ResumedGoesOn, SavableGoesOn, SavableIsFilled, SavedFirstFresh, SavedUseFresh, StartIsSavable}
+use Rattle.guest_save.specs.Laws.{ResumedGoesOn, SavableGoesOn, SavableIsFilled, SavedFirstFresh, SavedUseFresh, StartIsSavable}
+use Rattle.machine_defs.specs.Bootable.{IsBootable}
 use Rattle.guest_save.specs.Savable.{Fits, IsInReach, IsSavableEntry, IsSavableSpace, pages_of, top_level_of}
 use Rattle.guest_save.specs.Saves.{SavedMachine}
 use Rattle.guest_specs.specs.declared.guests.GuestSpec.{GuestSpec}
@@ -91,7 +92,7 @@ loaded_length : (size : ℕ) (image : List ℕ) → length image ≤ size → le
 unfolding loaded zeros
 loaded_length size image fits = omega (arith, length-append image (replicate (size - length image) 0), length-replicate {A = ℕ} (size - length image) 0)
 
-sizes_fit : (guest : GuestSpec) → CanStart guest → blocks_of (start guest) ≡ guest.blocks → All Fits (size_numbers (header_of (start guest)))
+sizes_fit : (guest : GuestSpec) → IsBootable guest → blocks_of (start guest) ≡ guest.blocks → All Fits (size_numbers (header_of (start guest)))
 unfolding start
 sizes_fit guest can blocks =
     All-cons Fits (blocks_of (start guest)) (guest.spaces ∷ guest.entries ∷ guest.console ∷ []) (omega (arith, blocks, can.blocks))
@@ -114,7 +115,7 @@ rest_fit : (guest : GuestSpec) → All Fits (numbered (start guest).platform.vir
 unfolding start shown supervisor_shown interrupts_shown enable_shown hypervisor_shown sstatus_bits sip_bits tvec_bits epc_bits satp_bits hstatus_bits hedeleg_bits hip_bits hgatp_bits
 rest_fit guest = fit_by_test (numbered (start guest).platform.virt.regs ++ state_numbers (start guest).platform.virt) refl
 
-numbers_fit : (guest : GuestSpec) → CanStart guest → blocks_of (start guest) ≡ guest.blocks → All Fits (header_numbers Third (header_of (start guest)))
+numbers_fit : (guest : GuestSpec) → IsBootable guest → blocks_of (start guest) ≡ guest.blocks → All Fits (header_numbers Third (header_of (start guest)))
 numbers_fit guest can blocks =
     let h = header_of (start guest) in
     All-append Fits (size_numbers h) (device_numbers Third h ++ later_numbers h) (sizes_fit guest can blocks)

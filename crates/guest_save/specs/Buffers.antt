@@ -2,7 +2,7 @@
 use Rattle.std.specs.Prelude.{ℕ, ◌≡◌, ◌≤◌, Bool, true, false, List, ◌++◌, Result, is_ok, length, take, OnErr}
 use Rattle.outside.specs.declared.sinks.Sink as sinks
 use Rattle.outside.specs.Faults.{Rose}
-use Rattle.outside.specs.Pieces.{Appends, Puts}
+use Rattle.outside.specs.Pieces.{Appends}
 
 -- the sink was given what was held and these bytes, but for what is held now
 pub record GivesAll {S : Type 0} (stands_for : S → List ℕ → Type 0) (old : S) (held : List ℕ) (new : S)
@@ -26,14 +26,6 @@ Gives stands_for old held new left false bytes = GivesFront stands_for old held 
 pub record Buffers {Y A E : Type 0} (O : sinks.Ghosts Y) (result : Result A E) (old : Y) (held : List ℕ)
     (new : Y) (left text : List ℕ) : Type 0 where
   pub bytes : Gives O.stands_for old held new left (is_ok result) text
-  pub cause : OnErr result (Rose (O.faults old) (O.faults new))
-  pub count : O.faults old ≤ O.faults new
-  pub stays : O.made_with new ≡ O.made_with old
-
--- what a step leaves of a sink that it puts a text in
-pub record PutsText {Y A E : Type 0} (O : sinks.Ghosts Y) (result : Result A E) (old new : Y)
-    (text : List ℕ) : Type 0 where
-  pub bytes : Puts O.stands_for old new (is_ok result) text
   pub cause : OnErr result (Rose (O.faults old) (O.faults new))
   pub count : O.faults old ≤ O.faults new
   pub stays : O.made_with new ≡ O.made_with old

@@ -18,6 +18,7 @@ use Rattle.guest_save.specs.declared.versions.Version.TheVariants.{Third}
 use Rattle.guest_save.specs.Headers.{header_numbers, header_of}
 use Rattle.guest_save.specs.Savable.{pages_of, top_level_of}
 use Rattle.guest_save.specs.Saves.{saved_form, saved_machine_in}
+use Rattle.guest_specs.specs.Limits.{least_entries, most_blocks, most_console, most_entries, most_spaces}
 use Rattle.machine_defs.specs.Machine.{Machine}
 use Rattle.machine_laws.specs.FirstKeys.{first_levels}
 use Rattle.machine_laws.specs.Reservations.{places_from}
@@ -34,10 +35,10 @@ is_within n least most = nat_le least n && nat_le n most
 abbrev pub has_sizes : Header → ℕ → Bool
 has_sizes h size =
     size == h.blocks * block_size
-    && is_within h.blocks 1 32
-    && is_within h.spaces 1 8
-    && is_within h.entries 16 256
-    && nat_le h.console 1048576
+    && is_within h.blocks 1 most_blocks
+    && is_within h.spaces 1 most_spaces
+    && is_within h.entries least_entries most_entries
+    && nat_le h.console most_console
 
 -- no moment is too late, and none later than one that comes after it
 abbrev pub inputs_rise : List (ℕ × ℕ) → Bool

@@ -14,13 +14,13 @@ use Rattle.guest_save.specs.Savable.{HasSizes, IsSavable, IsSavableEntry}
 use Rattle.guest_save.specs.Saves.{saved_form, saved_machine_in}
 use Rattle.guest_save.specs.Versions.{CanTell}
 use Rattle.guest_specs.specs.declared.guests.GuestSpec.{GuestSpec}
-use Rattle.guest_specs.specs.Inputs.{AreInputs}
 use Rattle.machine_defs.specs.Freshness.{FirstFresh, UsesFresh}
 use Rattle.machine_defs.specs.Machine.{Machine, start}
 use Rattle.machine_defs.specs.Runs.{run}
 use Rattle.machine_laws.specs.Keeping.{IsOrderly}
 use Rattle.machine_laws.specs.Reservations.{CachesInRam, ReservesInRam}
 use Rattle.machine_laws.specs.StorableStates.{stored_form}
+use Rattle.machine_defs.specs.Bootable.{IsBootable}
 
 -- the form of a machine that can be saved gives it back, in each version that can tell it
 abbrev pub RoundTrip : Type 0
@@ -65,21 +65,9 @@ abbrev pub SavableIsFilled : Type 0
 SavableIsFilled = (key : GuestRoot) (blocks : List ℕ) (device : Bool) (e : Entry)
     → IsSavableEntry key (length blocks * block_size) device e → CanFill blocks e
 
--- a guest that is within the limits, and whose image fits (own)
-pub record CanStart (guest : GuestSpec) : Type 0 where
-  pub some_block : 1 ≤ guest.blocks
-  pub blocks : guest.blocks ≤ 32
-  pub some_space : 1 ≤ guest.spaces
-  pub spaces : guest.spaces ≤ 8
-  pub some_entries : 16 ≤ guest.entries
-  pub entries : guest.entries ≤ 256
-  pub console : guest.console ≤ 1048576
-  pub image : length guest.image ≤ guest.blocks * block_size
-  pub inputs : AreInputs guest.inputs
-
--- the machine of such a guest at its start can be saved
+-- the machine of a guest that can be booted can be saved at its start
 abbrev pub StartIsSavable : Type 0
-StartIsSavable = (guest : GuestSpec) → CanStart guest → IsSavable (start guest)
+StartIsSavable = (guest : GuestSpec) → IsBootable guest → IsSavable (start guest)
 
 -- a run leaves sizes within the limits, where the machine caches and reserves in its RAM alone
 abbrev pub RunKeepsSizes : Type 0

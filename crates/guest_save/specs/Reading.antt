@@ -16,20 +16,8 @@ use Rattle.guest_save.specs.declared.versions.Version.TheVariants.{First, Second
 use Rattle.guest_save.specs.Headers.{header_in}
 use Rattle.guest_save.specs.Numbers.{items_in, number_in, leading_numbers}
 use Rattle.guest_save.specs.Versions.{header_end, later_begin, version_in}
+use Rattle.guest_specs.specs.Limits.{most_console, most_entries, most_inputs, most_spaces}
 use Rattle.machine_defs.specs.Machine.{Machine, Platform, with_pending_lines}
-
--- how many console bytes, inputs and spaces a machine may have, and how many entries a space
-abbrev pub most_console : ℕ
-most_console = 1048576
-
-abbrev pub most_inputs : ℕ
-most_inputs = 65536
-
-abbrev pub most_spaces : ℕ
-most_spaces = 8
-
-abbrev pub most_entries : ℕ
-most_entries = 256
 
 abbrev pub capped : ℕ → ℕ → ℕ
 capped most n = if nat_le n most then n else most

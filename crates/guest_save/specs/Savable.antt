@@ -6,21 +6,21 @@ use Rattle.arch_defs.specs.declared.roots.GuestMode.TheVariants.{Sv39x4, Sv48x4}
 use Rattle.arch_defs.specs.declared.roots.GuestRoot.{GuestRoot}
 use Rattle.arch_defs.specs.declared.roots.GuestRoot.TheVariants.{Bare, Table}
 use Rattle.arch_defs.specs.CachedEntries.{HasOtherPage}
-use Rattle.arch_defs.specs.CsrBits.{guest_root_of, hgatp_bits}
 use Rattle.arch_defs.specs.Devices.{device_frame}
 use Rattle.arch_defs.specs.Memory.{block_size}
-use Rattle.arch_defs.specs.Roots.{is_table}
 use Rattle.arch_defs.specs.Spaces.{Space, is_for}
 use Rattle.arch_defs.specs.WalkedEntries.{folds}
 use Rattle.guest_save.specs.declared.headers.Header.{Header}
 use Rattle.guest_save.specs.declared.versions.Version.TheVariants.{Third}
 use Rattle.guest_save.specs.Headers.{header_numbers, header_of}
 use Rattle.guest_specs.specs.Inputs.{AreInputs}
+use Rattle.guest_specs.specs.Limits as limit
 use Rattle.machine_defs.specs.Machine.{Machine, with_pending_lines}
 use Rattle.machine_laws.specs.FirstKeys.{AreStorable, HasFirst}
 use Rattle.machine_laws.specs.FrontSpaces.{FrontIs}
 use Rattle.machine_laws.specs.Reservations.{IsInRam, ReservesInRam}
 use Rattle.machine_laws.specs.StorableStates.{IsStorable}
+use Rattle.machine_laws.specs.Keys.{IsKey}
 
 -- a number of a form has 64 bits
 abbrev pub Fits : ℕ → Type 0
@@ -30,12 +30,12 @@ Fits n = n < 2 ^ 64
 pub record HasSizes (h : Header) (size : ℕ) : Type 0 where
   pub whole : size ≡ h.blocks * block_size
   pub some_block : 1 ≤ h.blocks
-  pub most_blocks : h.blocks ≤ 32
+  pub most_blocks : h.blocks ≤ limit.most_blocks
   pub some_space : 1 ≤ h.spaces
-  pub most_spaces : h.spaces ≤ 8
-  pub some_entries : 16 ≤ h.entries
-  pub most_entries : h.entries ≤ 256
-  pub most_console : h.console ≤ 1048576
+  pub most_spaces : h.spaces ≤ limit.most_spaces
+  pub some_entries : limit.least_entries ≤ h.entries
+  pub most_entries : h.entries ≤ limit.most_entries
+  pub most_console : h.console ≤ limit.most_console
 
 -- how many pages a table of this key translates, and the highest level of its leaves: those of Sv39x4 and of
 -- Sv48x4 (Privileged Architecture 20211203, 8.5.1)
@@ -48,11 +48,6 @@ abbrev pub top_level_of : GuestRoot → ℕ
 top_level_of Bare = 0
 top_level_of (Table Sv39x4 vmid ppn) = 2
 top_level_of (Table Sv48x4 vmid ppn) = 3
-
--- a value that hgatp can hold, which names a table
-pub record IsKey (key : GuestRoot) : Type 0 where
-  pub stored : guest_root_of (hgatp_bits key) ≡ key
-  pub table : is_table key ≡ true
 
 -- the frame of an entry is in RAM of this size, or is the device page, where there is one
 abbrev pub IsInReach : ℕ → Bool → Entry → Type 0

@@ -9,6 +9,7 @@ use Rattle.arch_defs.specs.Roots.{is_table}
 use Rattle.arch_defs.specs.Spaces.{Space}
 use Rattle.arch_defs.specs.WalkedEntries.{folds}
 use Rattle.guest_save.specs.Savable.{HasOtherKey, IsSavableEntry}
+use Rattle.guest_specs.specs.Limits.{most_inputs}
 use Rattle.machine_defs.specs.Machine.{Machine, Platform, with_pending_lines}
 use Rattle.machine_laws.specs.FirstKeys.{AreStorable}
 use Rattle.machine_laws.specs.FrontSpaces.{FrontIs}
@@ -22,7 +23,7 @@ pub record IsRead (m : Machine) : Type 0 where
   pub x0 : slice_index m.platform.virt.regs.x 0 ≡ 0
   pub csrs : stored_form m.platform.virt.csrs ≡ m.platform.virt.csrs
   pub lines : with_pending_lines m.platform ≡ m.platform
-  pub inputs : length m.platform.console.inputs ≤ 65536
+  pub inputs : length m.platform.console.inputs ≤ most_inputs
   pub keys : All (λ s. guest_root_of (hgatp_bits s.key) ≡ s.key) m.spaces
   pub storable : AreStorable m.platform.virt.first
 

@@ -1,7 +1,8 @@
 // Bytes that are kept until one put can take many.
 
 ghost use Rattle.std.specs.Prelude.{◌≡◌, ◌≤◌, [], length, OnOk};
-ghost use Rattle.guest_save.specs.Buffers.{Buffers, PutsText};
+ghost use Rattle.guest_save.specs.Buffers.{Buffers};
+ghost use Rattle.outside.specs.Texts.{PutsText};
 ghost use Rattle.guest_save.specs.Numbers.{number_bytes, numbers};
 
 use arrayvec::ArrayVec;

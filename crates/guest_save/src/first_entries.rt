@@ -9,13 +9,10 @@ ghost use Rattle.machine_laws.specs.FirstKeys.{AreApart, HasFirst, IsOfFirstTabl
 
 use crate::numbers::{after, count_in, numbers_in};
 use crate::versions::Version;
-use arch_defs::{FirstEntry, GuestRoot, SupervisorMode, SupervisorRoot, Tag};
+use arch_defs::{FIRST_ROOM, FirstEntry, GuestRoot, SupervisorMode, SupervisorRoot, Tag};
 use csr_file::{satp_bits, supervisor_root_of};
 use no_memory::NoMemory;
 use std::alloc::Global;
-
-/// The most first-stage translations of a machine.
-const MOST_FIRST: usize = 32;
 
 // V and hgatp, or twice 0.
 fn tag_numbers(tag: Tag) -> (u64, u64)
@@ -102,7 +99,7 @@ pub fn first_in(alloc: Global, version: Version, bytes: &[u8]) -> Result<Vec<Fir
 {
     match version {
         Version::First | Version::Second => Ok(Vec::new(alloc)),
-        Version::Third => first_entries_in(alloc, count_in(bytes, MOST_FIRST), after(bytes, 8)),
+        Version::Third => first_entries_in(alloc, count_in(bytes, FIRST_ROOM), after(bytes, 8)),
     }
 }
 
@@ -112,7 +109,7 @@ pub fn after_first(version: Version, bytes: &[u8]) -> &[u8]
 {
     match version {
         Version::First | Version::Second => bytes,
-        Version::Third => after(after(bytes, 8), 48 * count_in(bytes, MOST_FIRST)),
+        Version::Third => after(after(bytes, 8), 48 * count_in(bytes, FIRST_ROOM)),
     }
 }
 
@@ -199,7 +196,7 @@ fn are_apart(entries: &[FirstEntry]) -> bool
 pub fn has_first(entries: &[FirstEntry]) -> bool
     ensures { IsTrue result ↔ HasFirst entries.now }
 {
-    if entries.len() > MOST_FIRST {
+    if entries.len() > FIRST_ROOM {
         return false;
     }
     if !are_apart(entries) {

@@ -16,16 +16,10 @@ use crate::numbers::{after, count_in, number_in, numbers_in};
 use crate::snapshots::Snapshot;
 use crate::versions::Version;
 use arch_defs::{BLOCK_SIZE, Entry, FirstBuffer, FirstEntry, GuestRoot};
+use guest_specs::{MOST_CONSOLE, MOST_INPUTS, MOST_SPACES};
 use no_memory::NoMemory;
 use std::alloc::Global;
 use std::marker::Model;
-
-// The most console bytes, inputs and spaces.
-const MOST_CONSOLE: usize = 1_048_576;
-
-const MOST_INPUTS: usize = 65_536;
-
-const MOST_SPACES: usize = 8;
 
 // The bytes of a block.
 const BLOCK_BYTES: usize = BLOCK_SIZE as usize;

@@ -20,13 +20,8 @@ use crate::items::SavedSpace;
 use crate::machine_parts::MachineParts;
 use crate::registers::csr_numbers;
 use crate::snapshots::Snapshot;
-use arch_defs::{BLOCK_SIZE, Entry, GuestMode, GuestRoot, Virtual};
-
-// Where RAM begins.
-const RAM_BASE: u64 = 0x8000_0000;
-
-// The frame of the device page.
-const DEVICE_FRAME: u64 = 0x10000;
+use arch_defs::{BLOCK_SIZE, DEVICE_FRAME, Entry, GuestMode, GuestRoot, RAM_BASE, Virtual};
+use guest_specs::{LEAST_ENTRIES, MOST_BLOCKS, MOST_CONSOLE, MOST_ENTRIES, MOST_SPACES};
 
 // Whether a number is within its limits.
 fn is_within(number: u64, least: u64, most: u64) -> bool
@@ -39,16 +34,16 @@ fn is_within(number: u64, least: u64, most: u64) -> bool
 fn has_sizes(header: &Header, ram: u64) -> bool
     ensures { IsTrue result ↔ HasSizes header.now ram }
 {
-    if !is_within(header.blocks, 1, 32) {
+    if !is_within(header.blocks, 1, MOST_BLOCKS as u64) {
         return false;
     }
-    if !is_within(header.spaces, 1, 8) {
+    if !is_within(header.spaces, 1, MOST_SPACES as u64) {
         return false;
     }
-    if !is_within(header.entries, 16, 256) {
+    if !is_within(header.entries, LEAST_ENTRIES as u64, MOST_ENTRIES as u64) {
         return false;
     }
-    if header.console > 1_048_576 {
+    if header.console > MOST_CONSOLE as u64 {
         return false;
     }
     ram == header.blocks * BLOCK_SIZE

@@ -2,6 +2,7 @@
 use Rattle.std.specs.Prelude.{ℕ, ◌+◌, ◌*◌, ◌≤◌}
 use Rattle.guest_specs.specs.declared.guests.GuestSpec.{GuestSpec}
 use Rattle.guest_specs.specs.declared.needs.Need.{Need}
+use Rattle.guest_specs.specs.Limits.{most_blocks, most_entries, most_spaces}
 
 -- the tables below the root of a space that may have that many entries: an entry needs at most one on each
 -- level below the root's
@@ -13,15 +14,15 @@ tables_for entries = 3 * entries
 abbrev pub frames_needed : Need → ℕ
 frames_needed need = 512 * need.blocks + 5 + need.spaces * (4 + tables_for need.entries)
 
--- at most 32 blocks, 8 spaces, and 256 entries in each
+-- its blocks, its spaces and the entries in each are within the limits
 pub record IsNeed (need : Need) : Type 0 where
-  pub blocks : need.blocks ≤ 32
-  pub spaces : need.spaces ≤ 8
-  pub entries : need.entries ≤ 256
+  pub blocks : need.blocks ≤ most_blocks
+  pub spaces : need.spaces ≤ most_spaces
+  pub entries : need.entries ≤ most_entries
 
 -- the most frames that are such a need
 abbrev pub most_needed : ℕ
-most_needed = 512 * 32 + 5 + 8 * (4 + tables_for 256)
+most_needed = 512 * most_blocks + 5 + most_spaces * (4 + tables_for most_entries)
 
 -- what a guest needs: its RAM in blocks, and tables for that many cached spaces of at most that many entries
 -- each

@@ -10,7 +10,6 @@ use Rattle.arch_defs.specs.Spaces.{Space}
 use Rattle.frame_split.specs.Shares.{AreNeeds}
 use Rattle.guest_exit.specs.DevicePages.{CachesOwnDevice, IsOfDevice}
 use Rattle.guest_save.specs.Headers.{blocks_of}
-use Rattle.guest_save.specs.Laws.{CanStart}
 use Rattle.guest_save.specs.Savable.{IsInReach, IsSavable, IsSavableEntry, IsSavableSpace}
 use Rattle.guest_save.proofs.GoingOn.{start_is_savable}
 use Rattle.guest_specs.specs.declared.guests.GuestSpec.{GuestSpec}
@@ -18,24 +17,12 @@ use Rattle.guest_specs.specs.Needs.{IsNeed}
 use Rattle.machine_defs.specs.Machine.{Machine, start}
 use Rattle.guest_turns.specs.declared.sources.Source.{Source}
 use Rattle.guest_turns.specs.declared.sources.Source.TheVariants.{Fresh, Kept}
-use Rattle.guest_turns.specs.Limits.{IsBootable, needs_of}
+use Rattle.guest_turns.specs.Limits.{needs_of}
+use Rattle.machine_defs.specs.Bootable.{IsBootable}
 use Rattle.guest_turns.specs.Sources.{IsBootableSource, machine_of_source, machines_of_sources, need_of_source, needs_of_sources}
 
-can_start : (spec : GuestSpec) → IsBootable spec → CanStart spec
-can_start spec is = record {
-  some_block = is.some_block;
-  blocks = is.blocks;
-  some_space = is.some_space;
-  spaces = is.spaces;
-  some_entries = is.some_entries;
-  entries = is.entries;
-  console = is.console;
-  image = is.image;
-  inputs = is.inputs;
-}
-
 pub savable : (source : Source) → IsBootableSource source → IsSavable (machine_of_source source)
-savable (Fresh spec) is = start_is_savable spec (can_start spec is)
+savable (Fresh spec) is = start_is_savable spec is
 savable (Kept name kept) is = is
 
 -- a machine that can be saved caches the device page only where it has one

@@ -39,7 +39,7 @@ use Rattle.guest_exit.proofs.Pools.{pool_in_part, size_of}
 use Rattle.guest_turns.specs.declared.sources.Source.{Source}
 use Rattle.guest_turns.specs.Hosted.{is_set, no_machine}
 use Rattle.guest_turns.specs.Hosting.{AreHosted, AreLaidOut, AreMade, IsAtStart, IsFree, IsHosted, HasMachineBesideRam, parts_of, space_tables}
-use Rattle.guest_turns.specs.Limits.{IsBootable}
+use Rattle.machine_defs.specs.Bootable.{IsBootable}
 use Rattle.guest_turns.specs.Sources.{AreBootableSources, IsBootableSource, machine_of_source, machines_of_sources, need_of_source, needs_of_sources}
 use Rattle.guest_turns.proofs.Among.{machines_of}
 use Rattle.guest_turns.proofs.Placing.{part_ram_kept}

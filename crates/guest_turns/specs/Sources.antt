@@ -8,7 +8,7 @@ use Rattle.guest_save.specs.Savable.{IsSavable}
 use Rattle.machine_defs.specs.Machine.{Machine, start}
 use Rattle.guest_turns.specs.declared.sources.Source.{Source}
 use Rattle.guest_turns.specs.declared.sources.Source.TheVariants.{Fresh, Kept}
-use Rattle.guest_turns.specs.Limits.{IsBootable}
+use Rattle.machine_defs.specs.Bootable.{IsBootable}
 
 -- the machine that a guest goes on from: at its start, or as it was saved
 abbrev pub machine_of_source : Source → Machine

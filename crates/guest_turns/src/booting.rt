@@ -8,7 +8,7 @@ ghost use Rattle.frame_split.specs.Shares.{IsSplit, LeavesSpare, blocks_of_all, 
 ghost use Rattle.guest_save.specs.Needs.{machine_need};
 ghost use Rattle.shadow_space.specs.Shadows.{AreZeros};
 ghost use Rattle.guest_turns.specs.Hosting.{AreLaidOut, AreMade, HaveParts, IsAtStart, HasMachineBesideRam, space_tables};
-ghost use Rattle.guest_turns.specs.Limits.{IsBootable};
+ghost use Rattle.machine_defs.specs.Bootable.{IsBootable};
 ghost use Rattle.guest_turns.specs.Sources.{IsBootableSource, machine_of_source, need_of_source, needs_of_sources};
 
 use crate::remaking::remake;

@@ -33,6 +33,7 @@ use crate::turning::turn_of;
 use arch_defs::{Access, Virtual};
 use guest_exit::Guest;
 use guest_save::put;
+use guest_specs::MOST_GUESTS;
 use machine_defs::{GuestSpec, Status};
 use no_memory::NoMemory;
 use outside::{Sink, SinkFault};
@@ -40,9 +41,6 @@ use phys_mem::PhysMem;
 use rv64_hart::{Hart, Tally};
 use std::alloc::Global;
 use std::marker::Model;
-
-/// The most guests.
-const MOST_GUESTS: usize = 16;
 
 /// Guests on one hart in one machine memory, which contracts see as their lone machines, with the part of
 /// memory that each guest has, the bytes of memory, which blocks of it are free, and which guests have

@@ -1,4 +1,5 @@
 pub mod Answers
+pub mod Bootable
 pub mod Core
 pub mod Fills
 pub mod FirstLeaves

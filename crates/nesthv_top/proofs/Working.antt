@@ -5,7 +5,8 @@ use Rattle.std.proofs.lemmas.List.{length-map}
 use Rattle.std.proofs.lemmas.List.Elements.{All-nil, All-cons}
 use Rattle.std.proofs.lemmas.List.Sums.{sum_by-cons}
 use Rattle.guest_turns.specs.declared.sources.Source.TheVariants.{Fresh}
-use Rattle.guest_turns.specs.Limits.{AreBootable, IsBootable}
+use Rattle.guest_turns.specs.Limits.{AreBootable}
+use Rattle.machine_defs.specs.Bootable.{IsBootable}
 use Rattle.guest_turns.specs.Sources.{AreBootableSources, IsBootableSource}
 use Rattle.guest_turns.proofs.Savables.{fresh_each}
 use Rattle.guest_turns.specs.TurnLists.{own_steps, with_turns}

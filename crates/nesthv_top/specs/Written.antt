@@ -1,5 +1,5 @@
 -- What stands in a sink after a step.
-use Rattle.std.specs.Prelude.{◌≡◌, ℕ, ◌≤◌, List, Result, Ok, Err, Bool, false, is_ok, IsErrOf, OnErr}
+use Rattle.std.specs.Prelude.{◌≡◌, ℕ, ◌≤◌, List, Result, Ok, Err, Bool, false, IsErrOf}
 use Rattle.outside.specs.declared.sinks.Sink as sinks
 use Rattle.outside.specs.Faults.{Rose}
 use Rattle.outside.specs.Pieces.{Appends, Puts}
@@ -12,15 +12,7 @@ IsWritten stands_for old new (Ok a) text = Appends stands_for old new text
 IsWritten stands_for old new (Err WriteFault) text = Puts stands_for old new false text
 IsWritten stands_for old new (Err NoMemory) text = new ≡ old
 
--- what a step leaves of the sink that it puts a text in, by whether all was put
-pub record PutsText {Y A E : Type 0} (O : sinks.Ghosts Y) (result : Result A E) (old new : Y)
-    (text : List ℕ) : Type 0 where
-  pub bytes : Puts O.stands_for old new (is_ok result) text
-  pub cause : OnErr result (Rose (O.faults old) (O.faults new))
-  pub count : O.faults old ≤ O.faults new
-  pub stays : O.made_with new ≡ O.made_with old
-
--- the same where memory may run out before
+-- what a step leaves of a sink that it writes a text in, where memory may run out before
 pub record Writes {Y A : Type 0} (O : sinks.Ghosts Y) (result : Result A RunEnd) (old new : Y)
     (text : List ℕ) : Type 0 where
   pub bytes : IsWritten O.stands_for old new result text

@@ -8,7 +8,7 @@ ghost use Rattle.outside.specs.Faults.{Rose};
 ghost use Rattle.outside.specs.Pieces.{Puts};
 ghost use Rattle.nesthv_top.specs.Seen.{plan_seen, IsJob};
 ghost use Rattle.nesthv_top.specs.Texts.{check_text, file_length, frames_check, guest_check, guest_checks};
-ghost use Rattle.nesthv_top.specs.Written.{PutsText};
+ghost use Rattle.outside.specs.Texts.{PutsText};
 
 use crate::ends::Job;
 use arrayvec::ArrayVec;

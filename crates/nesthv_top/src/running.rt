@@ -16,10 +16,12 @@ ghost use Rattle.nesthv_top.specs.Plans.{AllRunAsWritten, IsResumable, machine_a
 ghost use Rattle.nesthv_top.specs.Moving.{kept_turn, own_turns, retires, retires_by, shares_of, with_moves, HasMovedBy};
 ghost use Rattle.nesthv_top.specs.Runnings.{hosted_as, moves_by, sections_of, CanMove, CountsTurns, CountsTurnsOf, HasRoomForCommand, HaveBlocks, IsAccountOf, IsMovedBy, IsReady};
 ghost use Rattle.nesthv_top.specs.Seen.{names_in, plan_seen, plan_with, IsJob};
-ghost use Rattle.nesthv_top.specs.Written.{PutsText, Writes};
+ghost use Rattle.nesthv_top.specs.Written.{Writes};
+ghost use Rattle.outside.specs.Texts.{PutsText};
 
 use crate::ends::{Job, RunEnd};
 use guest_save::saved_machines_go_on;
+use guest_specs::MOST_GUESTS;
 use guest_turns::{Host, MoveFault, Moves, Source};
 use machine_laws::{fills_suffice, machines_stay_orderly, runs_are_architectural, runs_are_fresh};
 use no_memory::NoMemory;
@@ -28,9 +30,6 @@ use report::{GuestLine, section};
 use run_config::GuestSettings;
 use rv64_hart::Tally;
 use std::alloc::Global;
-
-// The most guests.
-const MOST_GUESTS: usize = 16;
 
 /// Runs a job's guests, each for its turns, and puts the report.
 pub fn run<O: Sink>(

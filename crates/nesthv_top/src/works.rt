@@ -9,7 +9,8 @@ ghost use Rattle.work_images.specs.Guests.{guest_name};
 ghost use Rattle.nesthv_top.specs.Plans.{work_plan, AllRunAsWritten};
 ghost use Rattle.nesthv_top.specs.Runnings.{lines_of, CountsTurns, HasRoomForCommand, IsAccountOf};
 ghost use Rattle.nesthv_top.specs.Works.{sum_line, work_heading, work_text};
-ghost use Rattle.nesthv_top.specs.Written.{PutsText, Writes};
+ghost use Rattle.nesthv_top.specs.Written.{Writes};
+ghost use Rattle.outside.specs.Texts.{PutsText};
 
 use crate::ends::RunEnd;
 use crate::running::hosted;

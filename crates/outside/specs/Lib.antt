@@ -11,3 +11,4 @@ pub mod FileStores
 pub mod Connections
 pub mod ListConnections
 pub mod StdConnections
+pub mod Texts

@@ -7,7 +7,7 @@ mod ram;
 mod slices;
 
 pub use accesses::Mem;
-pub use arch_defs::{BLOCK_SIZE, FRAME_SIZE, Part};
+pub use arch_defs::{BLOCK_SIZE, FRAME_SIZE, Part, RAM_BASE};
 pub use memory::PhysMem;
 pub use no_memory::NoMemory;
-pub use ram::{RAM_BASE, Ram};
+pub use ram::Ram;

@@ -9,10 +9,7 @@ ghost use Rattle.phys_mem.specs.MemoryBytes.{IsWhole, IsWidth};
 
 use crate::accesses::Mem;
 use crate::memory::PhysMem;
-use arch_defs::Part;
-
-/// Where a guest's RAM begins.
-pub const RAM_BASE: u64 = 0x8000_0000;
+use arch_defs::{Part, RAM_BASE};
 
 /// The RAM of the guest that has this part of machine memory, as its own addresses show it.
 #[derive(Drop)]

@@ -2,6 +2,7 @@
 use Rattle.std.specs.Prelude.{ℕ, ◌<◌, ◌≤◌, ◌^◌, List, length}
 use Rattle.std.specs.List.{All}
 use Rattle.guest_specs.specs.Inputs.{AreInputs}
+use Rattle.guest_specs.specs.Limits.{least_entries, most_blocks, most_console, most_entries, most_guests, most_spaces}
 use Rattle.run_config.specs.declared.guests.FreshGuest.{FreshGuest}
 use Rattle.run_config.specs.declared.guests.GuestSettings.{GuestSettings}
 use Rattle.run_config.specs.declared.guests.InputSource.{InputSource}
@@ -31,12 +32,12 @@ pub record IsFreshWithin (g : FreshGuest) : Type 0 where
   pub image_some : 1 ≤ length g.image
   pub image_most : length g.image ≤ 255
   pub blocks_some : 1 ≤ g.blocks
-  pub blocks_most : g.blocks ≤ 32
+  pub blocks_most : g.blocks ≤ most_blocks
   pub spaces_some : 1 ≤ g.spaces
-  pub spaces_most : g.spaces ≤ 8
-  pub entries_least : 16 ≤ g.entries
-  pub entries_most : g.entries ≤ 256
-  pub console_most : g.console ≤ 1048576
+  pub spaces_most : g.spaces ≤ most_spaces
+  pub entries_least : least_entries ≤ g.entries
+  pub entries_most : g.entries ≤ most_entries
+  pub console_most : g.console ≤ most_console
   pub input : IsSourceWithin g.input
 
 -- what holds of how a guest begins: the file of a saved one has a name
@@ -60,8 +61,8 @@ pub record IsTurnWithin (guests : ℕ) (turn : ℕ × ℕ) : Type 0 where
 -- what holds of each configuration that is accepted
 pub record IsWithinLimits (c : Configuration) : Type 0 where
   pub guests_some : 1 ≤ length c.guests
-  pub guests_most : length c.guests ≤ 16
+  pub guests_most : length c.guests ≤ most_guests
   pub each_guest : All IsGuestWithin c.guests
   pub turns_most : length c.turns ≤ 2 ^ 20
   pub each_turn : All (IsTurnWithin (length c.guests)) c.turns
-  pub spare_most : c.spare ≤ 32
+  pub spare_most : c.spare ≤ most_blocks

@@ -2,6 +2,7 @@
 use Rattle.std.specs.Prelude.{ℕ, ◌^◌, ◌-◌, nat_eq, nat_le, Bool, true, false, not, ◌&&◌, List, [], ◌∷◌, ◌++◌, length, map, bytes_eq, Option, Some, None, is_some, unwrap_or, option_map}
 use Rattle.std.specs.List.{list_any}
 use Rattle.toml.specs.Data.{Data, Members, as_array}
+use Rattle.guest_specs.specs.Limits.{most_inputs}
 use Rattle.run_config.specs.declared.keys.ConfigKey.TheVariants as key
 use Rattle.run_config.specs.declared.faults.ConfigFault.{ConfigFault}
 use Rattle.run_config.specs.Faults as fault
@@ -21,12 +22,12 @@ unfoldable pub rise_from : ℕ → List (ℕ × ℕ) → Bool
 rise_from least [] = true
 rise_from least (pair ∷ rest) = nat_le least pair.0 && rise_from pair.0 rest
 
--- inputs: pairs of a moment and a byte, at most 65,536, the moments not falling (own)
+-- inputs: pairs of a moment and a byte, the moments not falling (own)
 unfoldable pub inputs_in : Data → Option (List (ℕ × ℕ))
 inputs_in value = do
   items ← as_array value
   inputs ← pairs_within (2 ^ 62 - 1) 255 items
-  _ ← passes_if (nat_le (length inputs) 65536 && rise_from 0 inputs)
+  _ ← passes_if (nat_le (length inputs) most_inputs && rise_from 0 inputs)
   Some inputs
 
 -- whether a guest is resumed, which format 1 does not know: whether it has the key (own)

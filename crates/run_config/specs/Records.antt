@@ -2,6 +2,7 @@
 use Rattle.std.specs.Prelude.{ℕ, zero, suc, ◌*◌, ◌^◌, nat_eq, nat_le, nat_lt, Bool, ◌||◌, List, length, map, take, drop, find, Option}
 use Rattle.std.specs.Int.{div_ceil, from_le_bytes, w64}
 use Rattle.std.specs.List.{range_with_len, slice_index}
+use Rattle.guest_specs.specs.Limits.{most_inputs}
 
 -- how many records the bytes are: one for each nine of them, and one for what is left at the end
 unfoldable pub record_count : List ℕ → ℕ
@@ -31,7 +32,7 @@ is_bad bytes number =
     nat_lt (length (record_at bytes number)) 9
     || nat_le (2 ^ 62) (moment_at bytes number)
     || nat_lt (moment_at bytes number) (moment_before bytes number)
-    || nat_eq number 65536
+    || nat_eq number most_inputs
 
 -- the least number of a bad record
 unfoldable pub bad_record : List ℕ → Option ℕ

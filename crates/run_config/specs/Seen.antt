@@ -6,6 +6,7 @@ use Rattle.std.specs.declared.alloc.Global.{Global}
 use Rattle.toml.specs.View.{view, table_view}
 use Rattle.toml.specs.declared.value.Value.{Value}
 use Rattle.toml.specs.Data.{Members, as_str}
+use Rattle.guest_specs.specs.Limits.{least_entries, most_blocks, most_console, most_entries, most_spaces}
 use Rattle.run_config.specs.declared.faults.ConfigFault.{ConfigFault}
 use Rattle.run_config.specs.declared.guests.GuestSettings.{GuestSettings}
 use Rattle.run_config.specs.declared.guests.InputSource.{InputSource}
@@ -37,20 +38,20 @@ unfoldable pub wrong_seen : ℕ → GuestValues → Option ConfigFault
 wrong_seen number v = first_fault (
     wrong_kind (Some number) (key.Name, any_text) (view v.name.now)
     ∷ wrong_kind (Some number) (key.Image, text_of 1 255) (view v.image.now)
-    ∷ wrong_kind (Some number) (key.Blocks, integer_of 1 32) (view v.blocks.now)
-    ∷ wrong_kind (Some number) (key.Spaces, integer_of 1 8) (view v.spaces.now)
-    ∷ wrong_kind (Some number) (key.Entries, integer_of 16 256) (view v.entries.now)
-    ∷ wrong_kind (Some number) (key.Console, integer_of 0 1048576) (view v.console.now)
+    ∷ wrong_kind (Some number) (key.Blocks, integer_of 1 most_blocks) (view v.blocks.now)
+    ∷ wrong_kind (Some number) (key.Spaces, integer_of 1 most_spaces) (view v.spaces.now)
+    ∷ wrong_kind (Some number) (key.Entries, integer_of least_entries most_entries) (view v.entries.now)
+    ∷ wrong_kind (Some number) (key.Console, integer_of 0 most_console) (view v.console.now)
     ∷ [])
 
 -- these are what the values are
 pub record AreReadFrom (r : GuestRef) (v : GuestValues) : Type 0 where
   pub name : as_str (view v.name.now) ≡ Some r.name.now
   pub image : as_str (view v.image.now) ≡ Some r.image.now
-  pub blocks : number_within 1 32 (view v.blocks.now) ≡ Some r.blocks
-  pub spaces : number_within 1 8 (view v.spaces.now) ≡ Some r.spaces
-  pub entries : number_within 16 256 (view v.entries.now) ≡ Some r.entries
-  pub console : number_within 0 1048576 (view v.console.now) ≡ Some r.console
+  pub blocks : number_within 1 most_blocks (view v.blocks.now) ≡ Some r.blocks
+  pub spaces : number_within 1 most_spaces (view v.spaces.now) ≡ Some r.spaces
+  pub entries : number_within least_entries most_entries (view v.entries.now) ≡ Some r.entries
+  pub console : number_within 0 most_console (view v.console.now) ≡ Some r.console
 
 -- these are the values of the table
 pub record HasValues (r : GuestRef) (table : Members) : Type 0 where

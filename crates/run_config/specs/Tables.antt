@@ -1,5 +1,6 @@
 -- The tables of the configuration: which keys there are, and what the value of each may be.
 use Rattle.std.specs.Prelude.{ℕ, Bool, true, false, List, [], ◌∷◌, ◌++◌, map}
+use Rattle.guest_specs.specs.Limits.{least_entries, most_blocks, most_console, most_entries, most_spaces}
 use Rattle.run_config.specs.declared.formats.Format.{Format}
 use Rattle.run_config.specs.declared.formats.Format.TheVariants.{One, Two}
 use Rattle.run_config.specs.declared.keys.ConfigKey.{ConfigKey}
@@ -19,10 +20,10 @@ pub data Kind : Type 0 where
 abbrev pub fresh_table : List (ConfigKey × Kind)
 fresh_table = (key.Name, any_text)
     ∷ (key.Image, text_of 1 255)
-    ∷ (key.Blocks, integer_of 1 32)
-    ∷ (key.Spaces, integer_of 1 8)
-    ∷ (key.Entries, integer_of 16 256)
-    ∷ (key.Console, integer_of 0 1048576)
+    ∷ (key.Blocks, integer_of 1 most_blocks)
+    ∷ (key.Spaces, integer_of 1 most_spaces)
+    ∷ (key.Entries, integer_of least_entries most_entries)
+    ∷ (key.Console, integer_of 0 most_console)
     ∷ []
 
 -- the same of a resumed guest, one that goes on from a file (own)
@@ -54,7 +55,7 @@ guest_keys resumed format =
 -- the keys of the same kinds that the document may have beside those with tests of their own (own)
 abbrev pub document_table : Format → List (ConfigKey × Kind)
 document_table One = []
-document_table Two = (key.Spare, integer_of 0 32) ∷ []
+document_table Two = (key.Spare, integer_of 0 most_blocks) ∷ []
 
 -- all keys that the document may have (own)
 abbrev pub document_keys : Format → List ConfigKey

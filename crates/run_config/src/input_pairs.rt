@@ -12,15 +12,12 @@ use crate::guests::{FileName, InputSource};
 use crate::keys::ConfigKey;
 use crate::pairs::pair_within;
 use crate::values::{text_within, value_at};
-use guest_specs::Inputs;
+use guest_specs::{Inputs, MOST_INPUTS};
 use std::alloc::{AllocError, Global};
 use toml::{Table, Value};
 
 // The last moment at which an input can come.
 const LAST_MOMENT: u64 = (1 << 62) - 1;
-
-// The most inputs of a guest.
-const MOST_INPUTS: usize = 65_536;
 
 // The input that a value is: a moment and a byte.
 fn input_in(value: &Value) -> Option<(u64, u8)>

@@ -5,14 +5,12 @@ ghost use Rattle.run_config.specs.declared.input_records.InputEnd.TheVariants.{N
 ghost use Rattle.run_config.specs.Configurations.{AreByteInputs};
 ghost use Rattle.run_config.specs.Records.{bad_record, record_byte, is_bad, moment_at, moment_before, record_at, records_of, record_count};
 
+use guest_specs::MOST_INPUTS;
 use std::alloc::{AllocError, Global};
 use thiserror::Error;
 
 // How many bytes a record has.
 const RECORD_BYTES: usize = 9;
-
-// The most records.
-const MOST_RECORDS: usize = 65_536;
 
 // The first moment at which no input can come.
 const MOMENTS_END: u64 = 1 << 62;
@@ -99,7 +97,7 @@ fn is_bad(bytes: &[u8], number: usize) -> bool
         return true;
     }
     let moment = moment_at(bytes, number);
-    moment >= MOMENTS_END || moment < moment_before(bytes, number) || number == MOST_RECORDS
+    moment >= MOMENTS_END || moment < moment_before(bytes, number) || number == MOST_INPUTS
 }
 
 /// The number of the first bad record of a file of inputs, from 0 on. A record is bad that has fewer than

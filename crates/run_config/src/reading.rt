@@ -24,14 +24,12 @@ use crate::kinds::number_or;
 use crate::schedules::{schedule_at, turns_of};
 use crate::settings::settings_of;
 use crate::values::{has_only, natural, value_at};
+use guest_specs::MOST_GUESTS;
 use std::alloc::{AllocError, Global};
 use toml::{Table, Value};
 
 // The most bytes that a configuration has.
 const MOST_BYTES: usize = 65_536;
-
-// The most guests.
-const MOST_GUESTS: usize = 16;
 
 // The document that the bytes spell.
 #[tactic(auto, unfolding(crate::specs::Accept::tree_of), using(crate::proofs::Texts::texts))]

@@ -20,7 +20,9 @@ use crate::input_pairs::input_at;
 use crate::keys::ConfigKey;
 use crate::kinds::{file_name_in, number_in, number_or, text_in};
 use crate::values::{has_only, is_name, value_at};
-use guest_specs::Name;
+use guest_specs::{
+    LEAST_ENTRIES, MOST_BLOCKS, MOST_CONSOLE, MOST_ENTRIES, MOST_SPACES, Name,
+};
 use std::alloc::{AllocError, Global};
 use toml::{Table, Value};
 
@@ -105,15 +107,21 @@ fn settings_in<'a>(values: GuestValues<'a>, guest: u32) -> Result<GuestRef<'a>, 
 {
     let name = text_in(values.name, Some(guest), ConfigKey::Name)?;
     let image = file_name_in(values.image, Some(guest), ConfigKey::Image)?;
-    let blocks = number_in(values.blocks, Some(guest), ConfigKey::Blocks, 1, 32)?;
-    let spaces = number_in(values.spaces, Some(guest), ConfigKey::Spaces, 1, 8)?;
-    let entries = number_in(values.entries, Some(guest), ConfigKey::Entries, 16, 256)?;
+    let blocks = number_in(values.blocks, Some(guest), ConfigKey::Blocks, 1, MOST_BLOCKS as u64)?;
+    let spaces = number_in(values.spaces, Some(guest), ConfigKey::Spaces, 1, MOST_SPACES as u64)?;
+    let entries = number_in(
+        values.entries,
+        Some(guest),
+        ConfigKey::Entries,
+        LEAST_ENTRIES as u64,
+        MOST_ENTRIES as u64,
+    )?;
     let console = number_in(
         values.console,
         Some(guest),
         ConfigKey::Console,
         0,
-        1_048_576,
+        MOST_CONSOLE as u64,
     )?;
     Ok(GuestRef {
         name,

@@ -6,7 +6,8 @@ use Rattle.std.proofs.lemmas.List.{get_or-replicate, get_or-set_same, get_or-set
 use Rattle.std.proofs.lemmas.List.Sums.{get_or-le-sum_by, sum_by-cons, sum_by-set, sum_by-le-sum_by}
 use Rattle.shadow_space.specs.declared.frames.TableFrames.{TableFrames}
 use Rattle.shadow_space.specs.Held.{IsKept, closed, fewer, more, next_free, opened}
-use Rattle.shadow_space.specs.Trees.{most_entries, most_tables}
+use Rattle.shadow_space.specs.Trees.{most_tables}
+use Rattle.guest_specs.specs.Limits.{most_entries}
 use Rattle.shadow_space.proofs.Slots.{same_or}
 
 used_zero : (n : ℕ) → n ≡ 0 → ◌≡◌ {A = ℕ} (cond (not (n == 0)) 1 0) 0

@@ -24,7 +24,8 @@ use Rattle.shadow_space.specs.declared.frames.TableFrames.{TableFrames}
 use Rattle.shadow_space.specs.Held.{HoldsList, IsKept, Stands, held_in, number_of, Holds, KeepsTable}
 use Rattle.shadow_space.specs.Leaves.{frame_of_ram, leaf_word_if, leaf_parts, leaf_word, leaves}
 use Rattle.shadow_space.specs.Shadows.{AreZeros, HasSmallNumbers, IsShadow, IsTidy, Shadow, Tidy, own_frames, root_of, tables_in, shadow_of}
-use Rattle.shadow_space.specs.Trees.{HasTables, IsOwn, RootIsApart, folded_shape, frames_of, most_entries, top}
+use Rattle.shadow_space.specs.Trees.{HasTables, IsOwn, RootIsApart, folded_shape, frames_of, top}
+use Rattle.guest_specs.specs.Limits.{most_entries}
 use Rattle.table_words.specs.Words.{doubleword_at}
 use Rattle.table_words.proofs.Words.{word_kept}
 use Rattle.shadow_space.proofs.Starting.{zeros_stand}

@@ -10,7 +10,7 @@ use Rattle.shadow_space.specs.declared.cached.CachedTable.{CachedTable}
 use Rattle.shadow_space.specs.declared.frames.TableFrames.{TableFrames}
 use Rattle.shadow_space.specs.declared.writing.Tables.{Tables}
 use Rattle.shadow_space.specs.Held.{HoldsList}
-use Rattle.shadow_space.specs.Trees.{most_entries}
+use Rattle.guest_specs.specs.Limits.{most_entries}
 
 -- a space: the part of its guest, its number in it, at most how many entries it has, these, oldest first, and
 -- the frames of their tables

@@ -8,6 +8,7 @@ use Rattle.arch_defs.specs.Roots.{folded_mode, guest_shape}
 use Rattle.guest_specs.specs.Needs.{tables_for}
 use Rattle.shadow_space.specs.declared.writing.Tables.{Tables}
 use Rattle.table_words.specs.Entries.{pointer_word}
+use Rattle.guest_specs.specs.Limits.{most_entries}
 
 -- all frames of these tables
 abbrev pub frames_of : Tables → Frames
@@ -33,10 +34,7 @@ folded_shape = guest_shape folded_mode
 abbrev pub top : ℕ
 top = 3
 
--- the most entries of a space, and the most tables below its root (own)
-abbrev pub most_entries : ℕ
-most_entries = 256
-
+-- the most tables below the root of a space (own)
 abbrev pub most_tables : ℕ
 most_tables = tables_for most_entries
 

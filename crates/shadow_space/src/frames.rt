@@ -2,12 +2,11 @@
 
 ghost use Rattle.std.specs.Prelude.{◌≡◌, ℕ, ◌+◌, ◌-◌, ◌<◌, ◌≤◌, length, slice_index, slice_set};
 ghost use Rattle.shadow_space.specs.Held.{HasMovedUp, IsKept, closed, fewer, more, next_free, opened};
-ghost use Rattle.shadow_space.specs.Trees.{most_entries, most_tables};
+ghost use Rattle.shadow_space.specs.Trees.{most_tables};
+ghost use Rattle.guest_specs.specs.Limits.{most_entries};
 
 use arch_defs::TABLES_PER_ENTRY;
-
-/// The most entries of a space.
-pub const MOST_ENTRIES: usize = 256;
+use guest_specs::MOST_ENTRIES;
 
 /// The most tables of a space below its root.
 pub const MOST_TABLES: usize = TABLES_PER_ENTRY as usize * MOST_ENTRIES;

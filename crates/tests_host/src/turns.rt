@@ -1,7 +1,8 @@
 // Turns of guests.
 
 ghost use Rattle.std.specs.Prelude.{◌≡◌, ◌≤◌, length, IfOk, IfSome};
-ghost use Rattle.guest_turns.specs.Limits.{AreBootable, IsBootable, frames_for};
+ghost use Rattle.guest_turns.specs.Limits.{AreBootable, frames_for};
+ghost use Rattle.machine_defs.specs.Bootable.{IsBootable};
 ghost use Rattle.guest_specs.specs.Needs.{need_of};
 
 use guest_turns::Host;

@@ -9,7 +9,8 @@ use Rattle.std.proofs.lemmas.List.Elements.{All-cons, All-nil}
 use Rattle.frame_split.specs.Shares.{frames_with}
 use Rattle.guest_specs.specs.Needs.{frames_needed, need_of}
 use Rattle.guest_specs.specs.declared.guests.GuestSpec.{GuestSpec}
-use Rattle.guest_turns.specs.Limits.{AreBootable, IsBootable, frames_for}
+use Rattle.guest_turns.specs.Limits.{AreBootable, frames_for}
+use Rattle.machine_defs.specs.Bootable.{IsBootable}
 use Rattle.guest_turns.specs.Sources.{AreBootableSources, IsBootableSource, need_of_source, needs_of_sources}
 use Rattle.guest_turns.specs.declared.sources.Source.{Source}
 

@@ -2,7 +2,8 @@
 
 ghost use Rattle.std.specs.Prelude.{◌≡◌, ◌≤◌, IfOk, IfSome};
 ghost use Rattle.guest_specs.specs.Needs.{need_of};
-ghost use Rattle.guest_turns.specs.Limits.{AreBootable, IsBootable, frames_for};
+ghost use Rattle.guest_turns.specs.Limits.{AreBootable, frames_for};
+ghost use Rattle.machine_defs.specs.Bootable.{IsBootable};
 ghost use Rattle.guest_turns.specs.Sources.{AreBootableSources, needs_of_sources};
 ghost use Rattle.frame_split.specs.Shares.{frames_with};
 

@@ -1,7 +1,7 @@
 use Rattle.std.proofs.Common.{arith}
 use Rattle.std.proofs.lemmas.List.{length_push}
 use Rattle.std.proofs.lemmas.List.Elements.{All-push}
-use Rattle.guest_turns.specs.Limits.{IsBootable}
+use Rattle.machine_defs.specs.Bootable.{IsBootable}
 use Rattle.tests_host.proofs.TestGuests.{IsSmall}
 use Rattle.tests_host.proofs.turns.guests.Goals as goal
 

@@ -1,6 +1,6 @@
 use Rattle.std.proofs.Common.{◌≡◌, length}
 use Rattle.std.specs.List.{All}
-use Rattle.guest_turns.specs.Limits.{IsBootable}
+use Rattle.machine_defs.specs.Bootable.{IsBootable}
 use Rattle.tests_host.proofs.TestGuests.{IsSmall}
 use Rattle.tests_host.proofs.turns.guests.Given as goal
 
