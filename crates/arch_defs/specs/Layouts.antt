@@ -47,7 +47,8 @@ space_frames part i =
     joined (within (part.first_root + 4 * (1 + i)) 4) (within (part.first_table + 1
     + i * tables_for part.entries) (tables_for part.entries))
 
--- a guest may have that many blocks, the roots begin at a multiple of four frames, and no frame is named twice
+-- a guest may have that many blocks, the roots begin at a multiple of four frames, and no frame is named
+-- twice
 pub record NamesEachOnce (part : Layout) : Type 0 where
   pub few : length part.blocks ≤ most_blocks
   pub distinct : IsDistinct part.blocks

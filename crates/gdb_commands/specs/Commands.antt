@@ -27,7 +27,8 @@ comma_place bytes = position_or_len (λ b. b == 0x2C) bytes
 
 abbrev pub numbers_at : ℕ → List ℕ → Option Place
 numbers_at n bytes =
-    if nat_lt n (length bytes) then both_numbers (hex_in (take n bytes)) (hex_in (drop (n + 1) bytes)) else None
+    if nat_lt n (length bytes)
+    then both_numbers (hex_in (take n bytes)) (hex_in (drop (n + 1) bytes)) else None
 
 unfoldable pub numbers_in : List ℕ → Option Place
 numbers_in bytes = numbers_at (comma_place bytes) bytes
@@ -46,7 +47,8 @@ description_by None = command.Bad
 
 -- a stop before an instruction is executed, or where a write changes memory; no other kind
 abbrev pub stop_kind : ℕ → StopKind
-stop_kind b = if b == 0x30 || b == 0x31 then kind.Instruction else if b == 0x32 then kind.Written else kind.Other
+stop_kind b = if b == 0x30 || b == 0x31 then kind.Instruction
+    else if b == 0x32 then kind.Written else kind.Other
 
 abbrev pub stop_by : Bool → StopKind → Option Place → Command
 stop_by Bool.true kind (Some place) = command.Set kind place
@@ -92,7 +94,8 @@ unfoldable pub query_in : List ℕ → Command
 query_in rest =
     if begins rest (codes "Supported") then command.Supported
     else if begins rest (codes "Attached") then command.Attached
-    else if begins rest (codes "Xfer:features:read:target.xml:") then description_by (numbers_in (drop 30 rest))
+    else if begins rest (codes "Xfer:features:read:target.xml:")
+    then description_by (numbers_in (drop 30 rest))
     else if begins rest (codes "Rcmd,") then monitor_by (unhex (drop 5 rest))
     else command.Unknown
 

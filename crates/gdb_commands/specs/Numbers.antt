@@ -4,7 +4,8 @@ use Rattle.gdb_packets.specs.Digits.{digit_value}
 
 -- a number with a digit more, where the digit is below the base and the number was below a bound
 abbrev pub with_digit : ℕ → ℕ → ℕ → Option ℕ → Option ℕ
-with_digit base most n (Some digit) = if nat_lt n most && nat_lt digit base then Some (base * n + digit) else None
+with_digit base most n (Some digit) =
+    if nat_lt n most && nat_lt digit base then Some (base * n + digit) else None
 with_digit base most n None = None
 
 abbrev pub longer : ℕ → ℕ → Option ℕ → ℕ → Option ℕ

@@ -78,7 +78,8 @@ body_length rest = position_or_len (λ b. b == closing) rest
 -- the packet that these bytes begin behind its opening, with how many bytes it has; nothing where it is cut
 unfoldable pub packet_in : List ℕ → Option Received
 packet_in rest = let n = body_length rest in
-    if nat_lt (n + 2) (length rest) then Some (record { message = packet_at n rest; length = n + 4 }) else None
+    if nat_lt (n + 2) (length rest)
+    then Some (record { message = packet_at n rest; length = n + 4 }) else None
 
 -- the message that bytes begin with; nothing where there is none, or it is cut
 unfoldable pub message_in : List ℕ → Option Received

@@ -74,8 +74,8 @@ is_over r pcs n = if has_pc pcs (run r.begin n) then Bool.false
 abbrev pub is_at_begin : Recording → List ℕ → ℕ → Bool
 is_at_begin r pcs n = if has_pc pcs (run r.begin n) then Bool.false else n == 0
 
--- why it has stopped where a move from one position has come to another, if not by a write. A step that is not
--- made is at the end
+-- why it has stopped where a move from one position has come to another, if not by a write. A step that is
+-- not made is at the end
 abbrev pub move_end_text : Recording → List ℕ → ℕ → ℕ → Move → List ℕ
 move_end_text r pcs from n move.Step = stop_or_end (n == from) end_text
 move_end_text r pcs from n move.Continue = stop_or_end (is_over r pcs n) end_text
@@ -88,7 +88,8 @@ watch_or_end (Some address) end = watch_text address
 watch_or_end None end = end
 
 abbrev pub move_text : Recording → SessionState → Move → List ℕ
-move_text r s way = watch_or_end (changed_by_move r s way) (move_end_text r s.pcs s.place (position_reached r s way) way)
+move_text r s way =
+    watch_or_end (changed_by_move r s way) (move_end_text r s.pcs s.place (position_reached r s way) way)
 
 -- what is set is acknowledged where some byte of it has a place
 abbrev pub set_text : StopKind → List ℕ → List ℕ

@@ -58,7 +58,8 @@ clamped last n = if nat_le n last then n else last
 
 -- where a move comes to. A step and a run are made where the machine goes on
 abbrev pub position_reached : Recording → SessionState → Move → ℕ
-position_reached r s move.Step = if goes_on (machine_shown r s).platform.status then clamped r.last (s.place + 1) else s.place
+position_reached r s move.Step = if goes_on (machine_shown r s).platform.status
+    then clamped r.last (s.place + 1) else s.place
 position_reached r s move.Continue = if goes_on (machine_shown r s).platform.status
     then next_stop r.begin (stops_in r s) s.place (r.last - s.place) else s.place
 position_reached r s move.StepBack = s.place - 1
@@ -71,7 +72,8 @@ changed_in m (was ∷ seen) =
     if machine_byte m was.0.offset == was.1 then changed_in m seen else Some was.0.place.address
 
 abbrev pub changed_by_move : Recording → SessionState → Move → Option ℕ
-changed_by_move r s way = changed_in (run r.begin (position_reached r s way)) (seen_in (machine_shown r s) s.watched)
+changed_by_move r s way =
+    changed_in (run r.begin (position_reached r s way)) (seen_in (machine_shown r s) s.watched)
 
 -- a move that changes a watched byte ends before the step that does: gdb takes a watch to be told so, and
 -- makes that step itself

@@ -140,8 +140,8 @@ HasCome K come come' (Err WriteFault) old new = ⊥
 HasCome K come come' (Err NoMemory) old new = (piece : List ℕ)
     × Appends K.made old new (Came piece ∷ []) × Consumes (K.coming old) (K.coming new) piece
 
--- a part of a talk: what was transferred; and whatever comes later, what is to be said is what was said in this
--- part, and then what is to be said from there on
+-- a part of a talk: what was transferred; and whatever comes later, what is to be said is what was said in
+-- this part, and then what is to be said from there on
 pub record TalkedTo {C : Type 0} (K : connections.Ghosts C) (r : Recording) (t t' : TalkState)
     (come come' : List ℕ) (old new : C) : Type 0 where
   pub transfers : List Transfer

@@ -119,8 +119,8 @@ impl<R: Runner + Drop> Session<R> {
     fn monitor(&mut self, alloc: Global, request: Request) -> Result<Vec<u8>, NoMemory>
         requires held { ShowsPosition R.Runner self.old }
         ensures keeps { KeepsSession R.Runner self.old self.new }
-        ensures state { OnOk result (session_state self.new
-            ≡ state_after (recording_of R.Runner self.old) (session_state self.old) (command.Monitor request)) }
+        ensures state { OnOk result (session_state self.new ≡ state_after (recording_of R.Runner self.old)
+            (session_state self.old) (command.Monitor request)) }
         ensures text { IfOk result (λ text. text.items
             ≡ answer_to (recording_of R.Runner self.old) (session_state self.old) (command.Monitor request)) }
     {

@@ -92,7 +92,8 @@ impl<R: Runner + Drop> Session<R> {
     // The position after a step, which is made where the machine goes on.
     fn next(&self) -> u64
         requires held { ShowsPosition R.Runner self.now }
-        ensures value { result ≡ position_reached (recording_of R.Runner self.now) (session_state self.now) Move.Step }
+        ensures value { result
+            ≡ position_reached (recording_of R.Runner self.now) (session_state self.now) Move.Step }
         ensures few { result ≤ 2 ^ 52 }
     {
         let place = self.positions.place();
@@ -106,8 +107,8 @@ impl<R: Runner + Drop> Session<R> {
     // Goes on to a stop, where the machine goes on.
     fn go_on(&mut self, alloc: Global, seen: &[(Watched, u8)]) -> Result<(), NoMemory>
         requires held { ShowsPosition R.Runner self.old }
-        requires seen { seen.now ≡ seen_in (machine_shown (recording_of R.Runner self.old) (session_state self.old))
-            self.old.watched.items }
+        requires seen { seen.now
+            ≡ seen_in (machine_shown (recording_of R.Runner self.old) (session_state self.old)) self.old.watched.items }
         ensures keeps { KeepsSession R.Runner self.old self.new }
         ensures state { OnOk result (session_state self.new
             ≡ come_to (recording_of R.Runner self.old) (session_state self.old) Move.Continue) }
@@ -122,8 +123,8 @@ impl<R: Runner + Drop> Session<R> {
     // Goes back to a stop, or to the start.
     fn go_back(&mut self, alloc: Global, seen: &[(Watched, u8)]) -> Result<(), NoMemory>
         requires held { ShowsPosition R.Runner self.old }
-        requires seen { seen.now ≡ seen_in (machine_shown (recording_of R.Runner self.old) (session_state self.old))
-            self.old.watched.items }
+        requires seen { seen.now
+            ≡ seen_in (machine_shown (recording_of R.Runner self.old) (session_state self.old)) self.old.watched.items }
         ensures keeps { KeepsSession R.Runner self.old self.new }
         ensures state { OnOk result (session_state self.new
             ≡ come_to (recording_of R.Runner self.old) (session_state self.old) Move.ContinueBack) }
@@ -135,8 +136,8 @@ impl<R: Runner + Drop> Session<R> {
     // Makes a move, from where watched bytes are these.
     fn go(&mut self, alloc: Global, way: Move, seen: &[(Watched, u8)]) -> Result<(), NoMemory>
         requires held { ShowsPosition R.Runner self.old }
-        requires seen { seen.now ≡ seen_in (machine_shown (recording_of R.Runner self.old) (session_state self.old))
-            self.old.watched.items }
+        requires seen { seen.now
+            ≡ seen_in (machine_shown (recording_of R.Runner self.old) (session_state self.old)) self.old.watched.items }
         ensures keeps { KeepsSession R.Runner self.old self.new }
         ensures state { OnOk result (session_state self.new
             ≡ come_to (recording_of R.Runner self.old) (session_state self.old) way) }
@@ -215,8 +216,8 @@ impl<R: Runner + Drop> Session<R> {
         ensures keeps { KeepsSession R.Runner self.old self.new }
         ensures state { OnOk result (session_state self.new ≡ record (session_state self.old)
             { place = place_with changed way self.old.positions.place }) }
-        ensures text { IfOk result (λ text. text.items ≡ watch_or_end changed
-            (move_end_text (recording_of R.Runner self.old) self.old.pcs.items from self.old.positions.place way)) }
+        ensures text { IfOk result (λ text. text.items ≡ watch_or_end changed (move_end_text
+            (recording_of R.Runner self.old) self.old.pcs.items from self.old.positions.place way)) }
     {
         match changed {
             Some(address) => {

@@ -193,7 +193,8 @@ impl<R: Runner + Drop> Session<R> {
     ) -> Result<(), NoMemory>
         requires held { ShowsPosition R.Runner self.old }
         ensures keeps { KeepsSession R.Runner self.old self.new }
-        ensures state { OnOk result (session_state self.new ≡ without_stop (session_state self.old) kind place) }
+        ensures state { OnOk result
+            (session_state self.new ≡ without_stop (session_state self.old) kind place) }
     {
         match kind {
             StopKind::Instruction => {

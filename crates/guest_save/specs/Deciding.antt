@@ -129,4 +129,5 @@ is_savable m = let p = m.platform in
 
 -- bytes are the form of a machine that can be saved, in the version that they tell: of the one that they give
 unfoldable pub is_saved : List ℕ → Bool
-is_saved bytes = is_savable (saved_machine_in bytes).machine && bytes_eq (saved_form (saved_machine_in bytes)) bytes
+is_saved bytes =
+    is_savable (saved_machine_in bytes).machine && bytes_eq (saved_form (saved_machine_in bytes)) bytes

@@ -35,7 +35,8 @@ IsNoForm bytes = (version : Version) (m : Machine) → IsSavable m → CanTell v
 -- they are none where the machine that they give cannot be saved, or has another form
 abbrev pub BadExactly : Type 0
 BadExactly = (bytes : List ℕ)
-    → (IsSavable (saved_machine_in bytes).machine → saved_form (saved_machine_in bytes) ≡ bytes → ⊥) → IsNoForm bytes
+    → (IsSavable (saved_machine_in bytes).machine → saved_form (saved_machine_in bytes) ≡ bytes → ⊥)
+    → IsNoForm bytes
 
 -- the front of a machine's form comes first, so bytes whose end is its RAM are its form exactly where their
 -- front is its front

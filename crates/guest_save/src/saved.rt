@@ -24,12 +24,12 @@ use std::alloc::Global;
 use std::marker::Model;
 use thiserror::Error;
 
-/// Why bytes give no saved machine.
+/// Why bytes do not give a saved machine.
 #[derive(Clone, Copy, Debug, PartialEq, Eq, Error)]
 pub enum SaveEnd {
     #[error("out of memory")]
     NoMemory,
-    #[error("the bytes are no saved machine")]
+    #[error("the bytes are not a saved machine")]
     Bad,
 }
 

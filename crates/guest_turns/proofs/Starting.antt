@@ -38,7 +38,7 @@ use Rattle.guest_exit.specs.View.{machine_of, platform_of}
 use Rattle.guest_exit.proofs.Pools.{pool_in_part, size_of}
 use Rattle.guest_turns.specs.declared.sources.Source.{Source}
 use Rattle.guest_turns.specs.Hosted.{is_set, no_machine}
-use Rattle.guest_turns.specs.Hosting.{AreHosted, AreLaidOut, AreMade, IsAtStart, IsFree, IsHosted, HasMachineBesideRam, parts_of, space_tables}
+use Rattle.guest_turns.specs.Hosting.{AreHosted, AreLaidOut, AreMade, IsAtStart, IsFree, IsHosted, IsBesideRam, parts_of, space_tables}
 use Rattle.machine_defs.specs.Bootable.{IsBootable}
 use Rattle.guest_turns.specs.Sources.{AreBootableSources, IsBootableSource, machine_of_source, machines_of_sources, need_of_source, needs_of_sources}
 use Rattle.guest_turns.proofs.Among.{machines_of}
@@ -218,7 +218,7 @@ tidy_new part pool memory own room tidy lies zeros =
 
 -- a guest at its start is made
 pub made_at_start : (spec : GuestSpec) (part : Layout) (guest : Guest) (memory : List ℕ) → IsAtStart spec part guest → part.spaces ≡ spec.spaces
-    → LieIn (named_by part) (length memory) → AreZeros (space_tables part) memory → HasMachineBesideRam (start spec) part guest memory
+    → LieIn (named_by part) (length memory) → AreZeros (space_tables part) memory → IsBesideRam (start spec) part guest memory
 unfolding start
 made_at_start spec part guest memory at spaces lies zeros = record {
   own_part = at.own_part;
@@ -232,7 +232,7 @@ made_at_start spec part guest memory at spaces lies zeros = record {
 }
 
 -- one that is made stays so where its part stays
-made_kept : (m : Machine) (part : Layout) (guest : Guest) (old new : List ℕ) → Same (named_by part) old new → HasMachineBesideRam m part guest old → HasMachineBesideRam m part guest new
+made_kept : (m : Machine) (part : Layout) (guest : Guest) (old new : List ℕ) → Same (named_by part) old new → IsBesideRam m part guest old → IsBesideRam m part guest new
 made_kept m part guest old new same made = record {
   own_part = made.own_part;
   own_pool = made.own_pool;
@@ -261,19 +261,19 @@ module _ (sources : List Source) (parts : List Layout) (i : ℕ) (part : Layout)
   other_same j d h other = kept (named_by (get_or parts j d)) (space_tables part) memory new (other_apart j d h other) only
 
   pub made_more : (guests : List Guest) (source : Source) (guest : Guest) → i ≡ length sources → AreMade sources parts guests memory
-      → HasMachineBesideRam (machine_of_source source) part guest new → AreMade (sources ++ source ∷ []) parts (guests ++ guest ∷ []) new
+      → IsBesideRam (machine_of_source source) part guest new → AreMade (sources ++ source ∷ []) parts (guests ++ guest ∷ []) new
   made_more guests source guest at so_far one =
       record { count = length_push guests guest ∙ ap (λ n. n + 1) so_far.count ∙ sym (length_push sources source); each = each }
     where
       each : (j : ℕ) (s : Source) (p : Layout) (d : Guest) → j < length (sources ++ source ∷ [])
-          → HasMachineBesideRam (machine_of_source (get_or (sources ++ source ∷ []) j s)) (get_or parts j p) (get_or (guests ++ guest ∷ []) j d) new
+          → IsBesideRam (machine_of_source (get_or (sources ++ source ∷ []) j s)) (get_or parts j p) (get_or (guests ++ guest ∷ []) j d) new
       each j s p d h = by (cases_eq j i)
         where
-          there : HasMachineBesideRam (machine_of_source (get_or (sources ++ source ∷ []) i s)) (get_or parts i p) (get_or (guests ++ guest ∷ []) i d) new
+          there : IsBesideRam (machine_of_source (get_or (sources ++ source ∷ []) i s)) (get_or parts i p) (get_or (guests ++ guest ∷ []) i d) new
           there = rw (get_or_push sources source s i (sym at), at_part p, get_or_push guests guest d i (so_far.count ∙ sym at)) one
 
-          by : (j ≡ i) ⊎ (j ≡ i → ⊥) → HasMachineBesideRam (machine_of_source (get_or (sources ++ source ∷ []) j s)) (get_or parts j p) (get_or (guests ++ guest ∷ []) j d) new
-          by (inl same) = subst (λ j. HasMachineBesideRam (machine_of_source (get_or (sources ++ source ∷ []) j s)) (get_or parts j p) (get_or (guests ++ guest ∷ []) j d) new) (sym same) there
+          by : (j ≡ i) ⊎ (j ≡ i → ⊥) → IsBesideRam (machine_of_source (get_or (sources ++ source ∷ []) j s)) (get_or parts j p) (get_or (guests ++ guest ∷ []) j d) new
+          by (inl same) = subst (λ j. IsBesideRam (machine_of_source (get_or (sources ++ source ∷ []) j s)) (get_or parts j p) (get_or (guests ++ guest ∷ []) j d) new) (sym same) there
           by (inr other) =
               let before : j < length sources = omega (arith, length_push sources source, h, at, other) in
               let guest_in : j < length guests = omega (arith, before, so_far.count) in
@@ -333,12 +333,12 @@ as_parts : (platform : Platform) (ram : List ℕ) (spaces : List Space) (space_r
     → (record { platform = platform; ram = ram; spaces = spaces; space_room = space_room; entry_room = entry_room; device = device }) ≡ m
 as_parts platform ram spaces space_room entry_room device m p r e s n d = rw (p, r, e, s, n, d) refl
 
-machine_made : (m : Machine) (part : Layout) (guest : Guest) (memory : List ℕ) → HasMachineBesideRam m part guest memory → ram_of part.blocks memory ≡ m.ram → machine_of guest memory ≡ m
+machine_made : (m : Machine) (part : Layout) (guest : Guest) (memory : List ℕ) → IsBesideRam m part guest memory → ram_of part.blocks memory ≡ m.ram → machine_of guest memory ≡ m
 machine_made m part guest memory made ram =
     as_parts (platform_of guest) (ram_of guest.part.blocks memory) (spaces_of guest.pool) (room_of guest.pool) guest.pool.most guest.device m made.platform
     (ap (λ part. ram_of part.blocks memory) made.own_part ∙ ram) made.spaces made.space_room made.entry_room made.device
 
-hosted_made : (m : Machine) (part : Layout) (guest : Guest) (memory : List ℕ) → IsSavable m → HasMachineBesideRam m part guest memory → NamesEachOnce part → IsHeld part memory
+hosted_made : (m : Machine) (part : Layout) (guest : Guest) (memory : List ℕ) → IsSavable m → IsBesideRam m part guest memory → NamesEachOnce part → IsHeld part memory
     → ram_of part.blocks memory ≡ m.ram → IsHosted guest memory
 hosted_made m part guest memory savable made once held ram = record {
   placed = record {

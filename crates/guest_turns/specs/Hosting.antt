@@ -93,7 +93,7 @@ pub record IsAtStart (spec : GuestSpec) (part : Layout) (guest : Guest) : Type 0
   pub device : guest.device ≡ spec.device
 
 -- a guest with what a machine has beside its RAM: wherever its RAM is the machine's, it is that machine
-pub record HasMachineBesideRam (m : Machine) (part : Layout) (guest : Guest) (memory : List ℕ) : Type 0 where
+pub record IsBesideRam (m : Machine) (part : Layout) (guest : Guest) (memory : List ℕ) : Type 0 where
   pub own_part : guest.part ≡ part
   pub own_pool : guest.pool.part ≡ part
   pub platform : platform_of guest ≡ m.platform
@@ -108,7 +108,7 @@ pub record AreMade (sources : List Source) (parts : List Layout) (guests : List 
     (memory : List ℕ) : Type 0 where
   pub count : length guests ≡ length sources
   pub each : (i : ℕ) (s : Source) (p : Layout) (d : Guest) → i < length sources
-      → HasMachineBesideRam (machine_of_source (get_or sources i s)) (get_or parts i p) (get_or guests i d) memory
+      → IsBesideRam (machine_of_source (get_or sources i s)) (get_or parts i p) (get_or guests i d) memory
 
 -- the frames of a part for the tables of its spaces
 abbrev pub space_tables : Layout → Frames

@@ -7,7 +7,7 @@ ghost use Rattle.arch_defs.specs.Memory.{zeros};
 ghost use Rattle.frame_split.specs.Shares.{IsSplit, LeavesSpare, blocks_of_all, frames_with};
 ghost use Rattle.guest_save.specs.Needs.{machine_need};
 ghost use Rattle.shadow_space.specs.Shadows.{AreZeros};
-ghost use Rattle.guest_turns.specs.Hosting.{AreLaidOut, AreMade, HaveParts, IsAtStart, HasMachineBesideRam, space_tables};
+ghost use Rattle.guest_turns.specs.Hosting.{AreLaidOut, AreMade, HaveParts, IsAtStart, IsBesideRam, space_tables};
 ghost use Rattle.machine_defs.specs.Bootable.{IsBootable};
 ghost use Rattle.guest_turns.specs.Sources.{IsBootableSource, machine_of_source, need_of_source, needs_of_sources};
 
@@ -110,7 +110,7 @@ fn guest_from(
     requires meets { Meets (need_of_source source) part }
     requires lies { LieIn (named_by part) (length memory.old) }
     requires zeros { AreZeros (space_tables part) memory.old }
-    ensures made { IfOk result (λ guest. HasMachineBesideRam (machine_of_source source) part guest memory.new) }
+    ensures made { IfOk result (λ guest. IsBesideRam (machine_of_source source) part guest memory.new) }
     ensures only { IfOk result (λ guest. Only (space_tables part) memory.old memory.new) }
 {
     match source {
@@ -154,7 +154,7 @@ fn guest_resumed(
     requires meets { Meets (machine_need saved.now.machine) part }
     requires lies { LieIn (named_by part) (length memory.old) }
     requires zeros { AreZeros (space_tables part) memory.old }
-    ensures made { IfOk result (λ guest. HasMachineBesideRam saved.now.machine part guest memory.new) }
+    ensures made { IfOk result (λ guest. IsBesideRam saved.now.machine part guest memory.new) }
     ensures only { IfOk result (λ guest. Only (space_tables part) memory.old memory.new) }
 {
     saved.can_be_saved();

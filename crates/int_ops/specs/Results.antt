@@ -1,5 +1,5 @@
--- The instructions that make a number of two, and which number each makes (Unprivileged ISA 20191213, 2.4, 5.2, 7
--- and 8.4).
+-- The instructions that make a number of two, and which number each makes (Unprivileged ISA 20191213, 2.4,
+-- 5.2, 7 and 8.4).
 use Rattle.std.specs.Prelude.{ℕ, ⊤}
 use Rattle.op_defs.specs.declared.ops.Op.{Op}
 use Rattle.op_defs.specs.declared.ops.Op.TheVariants as op

@@ -49,7 +49,8 @@ known_of first tag virt =
 -- the leaf at which a walk ends, if it permits the access; Bare has none
 abbrev pub leaf_if : Privilege → Access → WalkEnd → Option LeafPte
 leaf_if privilege access (Leaf frame level r w x u) =
-    let leaf = leaf_with frame level r w x u in if permits_first privilege access leaf then Some leaf else None
+    let leaf = leaf_with frame level r w x u in
+    if permits_first privilege access leaf then Some leaf else None
 leaf_if privilege access PageFault = None
 leaf_if privilege access (FetchEnd place trap) = None
 

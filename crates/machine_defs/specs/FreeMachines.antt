@@ -9,8 +9,8 @@
 -- 5. Translations of the first stage are cached of the present mode's own register alone, where its privilege
 --    permits the access.
 -- 6. All that is cached is cached before a step.
--- 7. A first-stage translation serves under one whole value of satp, or of vsatp and hgatp, and under no other
---    one with the same ASID or VMID, also where its leaf is global.
+-- 7. A first-stage translation serves under one whole value of satp, or of vsatp and hgatp, and under no
+--    other one with the same ASID or VMID, also where its leaf is global.
 -- 8. A fence of the first stage by ASID drops translations of global leaves too.
 -- 9. HFENCE.GVMA by page drops all first-stage translations of the VMID.
 use Rattle.std.specs.Prelude.{ℕ, zero, suc, ◌≡◌, ◌/◌, ◌⊎◌, ◌&&◌, Bool, true, false, List, [], Option, Some, None, All, Contains, flat_map, map}

@@ -56,11 +56,12 @@ abbrev pub with_retired_if : Bool → ℕ → Shares → Shares
 with_retired_if true g shares = with_retired g shares
 with_retired_if false g shares = shares
 
--- after turn t, which is one of the guest g: block t mod its blocks has moved, and then the guest has retired,
--- where none of the turns that come is its own, unless it is kept (own)
+-- after turn t, which is one of the guest g: block t mod its blocks has moved, and then the guest has
+-- retired, where none of the turns that come is its own, unless it is kept (own)
 abbrev pub after_turn : Option ℕ → ℕ → ℕ → List (ℕ × ℕ) → Shares → Shares
 after_turn kept t g later shares =
-    with_retired_if (nat_eq (turns_due kept g later) 0) g (with_move g (t % length (blocks_at shares g)) shares)
+    with_retired_if (nat_eq (turns_due kept g later) 0) g
+    (with_move g (t % length (blocks_at shares g)) shares)
 
 -- after turns in order, the first of which is turn t
 unfoldable pub with_moves : Option ℕ → ℕ → List (ℕ × ℕ) → Shares → Shares

@@ -51,7 +51,8 @@ fault_by (Err found) = Some found
 
 -- the fault of a command that saves a guest which a configuration does not have: the guest's number (own)
 abbrev pub absent_guest_fault : FileCommand → Result Configuration ConfigFault → Option ConfigFault
-absent_guest_fault (Save config guest) (Ok c) = unless (nat_le (guest + 1) (length c.guests)) (fault.no_guest guest)
+absent_guest_fault (Save config guest) (Ok c) =
+    unless (nat_le (guest + 1) (length c.guests)) (fault.no_guest guest)
 absent_guest_fault command accepted = None
 
 -- the configuration: it is read and tested as text, then as a configuration, and then whether it has the

@@ -78,7 +78,8 @@ schedule_in document = schedule_at (length (guests_in document)) document
 -- (own)
 unfoldable pub head_fault : Members → Option ConfigFault
 head_fault document =
-    first_fault (unless (is_some (format_at document)) fault.format ∷ absent_fault None document key.Guest ∷ [])
+    first_fault
+    (unless (is_some (format_at document)) fault.format ∷ absent_fault None document key.Guest ∷ [])
 
 -- the first of the faults that are found after these (own)
 unfoldable pub body_fault : Members → Option ConfigFault

@@ -7,7 +7,7 @@ use Rattle.run_config.specs.declared.faults.ConfigFault.{ConfigFault}
 abbrev pub fault_of : ℕ → Option ℕ → ConfigFault
 fault_of number guest = record { number = number; guest = guest; key = None; value = None }
 
--- the bytes are no TOML document (own)
+-- the bytes are not a TOML document (own)
 unfoldable pub not_toml : ConfigFault
 not_toml = fault_of 1 None
 

@@ -34,7 +34,7 @@ fn fault_of(number: u8, guest: Option<u32>) -> ConfigFault
 }
 
 impl ConfigFault {
-    /// Fault 1, where the bytes are no TOML document.
+    /// Fault 1, where the bytes are not a TOML document.
     #[tactic(auto, unfolding(crate::specs::Faults::not_toml))]
     pub fn not_toml() -> ConfigFault
         ensures { result ≡ fault.not_toml }

@@ -28,7 +28,8 @@ pub record HasKept {Y : Type 0} (R : runners.Ghosts Y) (m : Machine) (old new : 
   pub machine : R.machine_in form ≡ m
 
 -- a state that is kept is that of the run at its place, and its form is among those that are kept
-pub record IsKeptState {Y : Type 0} (R : runners.Ghosts Y) (origin : Machine) (kept : List (List ℕ)) (state : Kept) : Type 0 where
+pub record IsKeptState {Y : Type 0} (R : runners.Ghosts Y) (origin : Machine) (kept : List (List ℕ))
+    (state : Kept) : Type 0 where
   pub inside : state.form < length kept
   pub is_form : R.is_form (form_at kept state.form)
   pub machine : R.machine_in (form_at kept state.form) ≡ run origin state.place

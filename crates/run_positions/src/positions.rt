@@ -24,8 +24,8 @@ const GAP: u64 = 16_384;
 // The machine that the run begins with.
 const BEGIN: Kept = Kept { place: 0, form: 0 };
 
-/// A run of a machine at a position, which is after how many steps it is shown, with states that are kept. The
-/// first form of the pool is that of the start.
+/// A run of a machine at a position, which is after how many steps it is shown, with states that are kept.
+/// The first form of the pool is that of the start.
 #[derive(Drop)]
 pub struct Positions<R> {
     runner: R,

@@ -61,7 +61,7 @@ apart index word upper low is n0 n1 n2 n3 n4 n5 n6 n7 = ne_eqb (opcode word) (4 
   eqb-false index (upper + 224) n7,
 ))
 
--- and a word of none of the common opcodes is no common word
+-- and a word of none of the common opcodes is not a common word
 pub uncommon : (word : ℕ) → nat_eq (opcode word) 0b0110111 ≡ false → nat_eq (opcode word) 0b0010111 ≡ false → nat_eq (opcode word) 0b1101111 ≡ false → nat_eq (opcode word) 0b1100111 ≡ false
     → nat_eq (opcode word) 0b1100011 ≡ false → nat_eq (opcode word) 0b0000011 ≡ false → nat_eq (opcode word) 0b0100011 ≡ false → nat_eq (opcode word) 0b0010011 ≡ false
     → nat_eq (opcode word) 0b0110011 ≡ false → nat_eq (opcode word) 0b0011011 ≡ false → nat_eq (opcode word) 0b0111011 ≡ false → None ≡ common_op_of word

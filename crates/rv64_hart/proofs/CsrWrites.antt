@@ -1,5 +1,5 @@
 -- Which writes of registers leave the roots and the privilege of accesses as they are: those of registers whose
--- number is no multiple of 128, so of none of sstatus, satp, vsstatus, vsatp and hgatp.
+-- number is not a multiple of 128, so of none of sstatus, satp, vsstatus, vsatp and hgatp.
 use Rattle.std.specs.Prelude.{Result, Ok, Err, ◌&&◌, nat_le, nat_eq}
 use Rattle.std.proofs.Common.{cond, ◌≡◌, ℕ, ◌/◌, ◌%◌, ◌^◌, Bool, true, false, Option, Some, None, refl, arith}
 use Rattle.std.proofs.lemmas.Bool.{eqb-false, eqb-true}

@@ -137,4 +137,5 @@ LastIsLeaf leaf va (m ∷ (n ∷ ms)) = LastIsLeaf leaf va (n ∷ ms)
 abbrev pub LeafAddress : Type 0
 LeafAddress = (reading : EntryReading) (root : ℕ) (shape : Shape) (va : ℕ) (access : Access)
     (leaf : LeafPte)
-    → walk reading root shape va access ≡ end_at_leaf leaf → LastIsLeaf leaf va (path reading root shape va access)
+    → walk reading root shape va access ≡ end_at_leaf leaf
+    → LastIsLeaf leaf va (path reading root shape va access)

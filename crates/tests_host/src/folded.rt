@@ -114,7 +114,7 @@ static CASES: [Case; 7] = [
     // The SRET enters the space of hgatp, which is empty: the fetch and the load each lack their page's
     // entry, which is filled and is not a step.
     Case {
-        name: "misses are no steps",
+        name: "misses are not steps",
         made: &[STEPPED, RETRY, RETRY, HART],
         gives: &[(At::Mode, VS), (At::Pc, 4), (At::X(10), 0x41)],
         ..FOLDED

@@ -444,7 +444,7 @@ static CASES: [Case; 31] = [
         after: &[(0xA010, THIRD)],
     },
     Case {
-        name: "no multiple of the width, also where there is no page",
+        name: "not a multiple of the width, also where there is no page",
         mode: Mode::HS,
         given: &[GUEST_ROOT, ROOT],
         rows: &[

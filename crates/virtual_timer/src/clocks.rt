@@ -109,9 +109,9 @@ impl Clock {
         self.time += steps;
     }
 
-    /// Waits for an interrupt that `sie` enables, as HS reads it: of the timer by its bit 5, or by its bit 9 of
-    /// the first unread input, whose moment is `input`. The time becomes the wake moment. Where there is none,
-    /// the wait is for good.
+    /// Waits for an interrupt that `sie` enables, as HS reads it: of the timer by its bit 5, or by its bit 9
+    /// of the first unread input, whose moment is `input`. The time becomes the wake moment. Where there is
+    /// none, the wait is for good.
     pub fn wait(&mut self, sie: u64, input: Option<u64>) -> WaitEnd
         requires timer { IsTrue (bit 5 sie) → self.old.time < self.old.timer }
         requires input { IsTrue (bit 9 sie) → ForSome input (λ moment. self.old.time < moment) }

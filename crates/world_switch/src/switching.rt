@@ -21,10 +21,10 @@ use phys_mem::RAM_BASE;
 const OWN_EXCEPTIONS: u64 = 0xB1FF;
 
 /// Gives the hart what it has for the guest that has this part: its VS and VU stand for the guest's HS and U
-/// with V = 0, and for its VS and VU with V = 1, under the table whose root begins at the frame `root`: by the
-/// mode of folded tables where that is the root of one of the part's spaces, else by the host table's. The
-/// guest's reservation is at its place in machine memory. The hart gets the guest's first-stage translations,
-/// and for whom the guest's accesses are.
+/// with V = 0, and for its VS and VU with V = 1, under the table whose root begins at the frame `root`: by
+/// the mode of folded tables where that is the root of one of the part's spaces, else by the host table's.
+/// The guest's reservation is at its place in machine memory. The hart gets the guest's first-stage
+/// translations, and for whom the guest's accesses are.
 pub fn load(virt: &Virtual, part: &Part, root: u64, hart: &mut HartState)
     requires held { ReservesWithin (in_ram part.now.blocks) virt.now.reservation }
     ensures has { hart.new ≡ loaded_in part.now (root_at part.now root) virt.now }
@@ -94,8 +94,9 @@ fn copy_registers(from: &Regs, to: &mut Regs)
 }
 
 /// Gives the guest that has this part what the hart has for it, by the guest's V. The reservation comes back
-/// to the guest's own address: one at a place that the part does not have becomes none. That cannot occur, for
-/// the hart reserves only what the guest's host table gives. What the hart does not have for the guest stays.
+/// to the guest's own address: one at a place that the part does not have becomes none. That cannot occur,
+/// for the hart reserves only what the guest's host table gives. What the hart does not have for the guest
+/// stays.
 pub fn save(hart: &HartState, part: &Part, virt: &mut Virtual)
     ensures { virt.new ≡ saved_in part.now hart.now.virt virt.old }
 {
