@@ -126,11 +126,6 @@ without_oldest count slots new some few room empty all is size =
           (All-drop HasGuestFrame 1 (take count slots) all),
     )
 
-pub others_of : (count : ℕ) (slots new shown : List FirstEntry) → take count slots ≡ shown → 0 < count → count ≤ length slots → new ≡ copy_within slots 1 count 0
-    → take (count - 1) (set new (count - 1) no_entry) ≡ drop 1 shown
-others_of count slots new shown seen some few is =
-    take-set new (count - 1) no_entry ∙ ap (take (count - 1)) is ∙ moved_up count slots some few ∙ ap (drop 1) seen
-
 pub oldest_page : (count : ℕ) (slots shown : List FirstEntry) → take count slots ≡ shown → 0 < count
     → All (λ e. (get_or slots 0 no_entry).page ≡ e.page) (take 1 shown)
 oldest_page count slots shown seen some = subst (λ xs. All (λ e. (get_or slots 0 no_entry).page ≡ e.page) (take 1 xs)) seen (by count slots some)

@@ -1,11 +1,11 @@
 -- A guest's RAM in its blocks of machine memory.
-use Rattle.std.proofs.Common.{◌≡◌, ℕ, true, ◌+◌, ◌*◌, ◌/◌, ◌%◌, ◌<◌, ◌≤◌, List, length, get_or, slice_index, sym, arith}
+use Rattle.std.proofs.Common.{◌≡◌, ℕ, true, ◌+◌, ◌*◌, ◌/◌, ◌%◌, ◌<◌, ◌≤◌, List, length, slice_index, sym, arith}
 use Rattle.std.proofs.lemmas.Nat.{mod_below}
 use Rattle.arch_defs.specs.Memory.{block_size, load, pasted}
 use Rattle.arch_defs.specs.Frames.{in_blocks, LieIn, Same}
 use Rattle.arch_defs.specs.Ram.{ram_of, host_place, SlicesLieIn, IsDistinct}
 use Rattle.arch_defs.proofs.FrameSets.{in_block_at}
-use Rattle.arch_defs.proofs.SlicesOf.{slot, length_slices, place_inside, places_apart, along, slices_alike, load_slices, pasted_slices, byte_of}
+use Rattle.arch_defs.proofs.SlicesOf.{slot, length_slices, place_inside, places_apart, along, slices_alike, load_slices, pasted_slices}
 
 some_bytes : 0 < block_size
 some_bytes = omega arith
@@ -44,10 +44,6 @@ host_places_apart blocks a b distinct a_in b_in same = places_apart block_size b
 
 pub host_place_along : (blocks : List ℕ) (offset k : ℕ) → offset % block_size + k < block_size → host_place blocks (offset + k) ≡ host_place blocks offset + k
 host_place_along blocks offset k h = along block_size blocks offset k h
-
-pub ram_byte : (blocks memory : List ℕ) (offset : ℕ) → SlicesLieIn block_size blocks (length memory) → offset < length blocks * block_size
-    → get_or (ram_of blocks memory) offset 0 ≡ get_or memory (host_place blocks offset) 0
-ram_byte blocks memory offset lie h = byte_of block_size blocks memory offset some_bytes lie h
 
 -- RAM depends on the frames of its blocks alone
 pub ram_kept : (blocks old new : List ℕ) → SlicesLieIn block_size blocks (length old) → Same (in_blocks blocks) old new → ram_of blocks new ≡ ram_of blocks old

@@ -1,12 +1,12 @@
 -- The frames of blocks, block by block, and parts with another block.
-use Rattle.std.proofs.Common.{◌≡◌, ◌≢◌, ℕ, ◌*◌, ◌/◌, ◌<◌, ◌≤◌, ◌⊎◌, inl, inr, true, false, List, [], ◌∷◌, length, slice_index, slice_set, refl, sym, ap, subst, ◌∙◌, arith, length-set}
+use Rattle.std.proofs.Common.{◌≡◌, ◌≢◌, ℕ, ◌*◌, ◌/◌, ◌<◌, ◌≤◌, ◌⊎◌, inl, inr, true, false, List, [], ◌∷◌, length, slice_index, slice_set, sym, ap, subst, ◌∙◌, arith, length-set}
 use Rattle.std.proofs.lemmas.Bool.{both_ways, cases_Bool, cases_eq, or_cases}
 use Rattle.std.proofs.lemmas.List.{get_or-set_other, get_or-set_same}
 use Rattle.arch_defs.specs.Frames.{Apart, Within, in_blocks, joined}
 use Rattle.arch_defs.specs.Layouts.{Layout, NamesEachOnce, in_tables, named_by}
 use Rattle.arch_defs.specs.Ram.{IsDistinct}
 use Rattle.arch_defs.proofs.FrameSets.{apart_within, block_found, in_block_at, joined_within, left_within, right_within}
-use Rattle.block_moves.specs.Moves.{with_block, without_blocks}
+use Rattle.block_moves.specs.Moves.{with_block}
 
 -- the frames of one block
 pub of_one : (block frame : ℕ) → block ≡ frame / 512 → in_blocks (block ∷ []) frame ≡ true
@@ -116,12 +116,3 @@ apart_from_moved part i to once inside free frame named = by (cases_Bool (named_
     by : (named_by (with_block part i to) frame ≡ true) ⊎ (named_by (with_block part i to) frame ≡ false) → named_by (with_block part i to) frame ≡ false
     by (inl is) = absurd (no_frame (or_cases (in_blocks (slice_set part.blocks i to) frame) (in_tables part frame) is))
     by (inr apart) = apart
-
-pub once_without : (part : Layout) → NamesEachOnce part → NamesEachOnce (without_blocks part)
-once_without part once = record {
-  few = omega arith;
-  distinct = λ i j h. absurd (omega (arith, h));
-  aligned = once.aligned;
-  tables = λ frame named. absurd (both_ways false refl named);
-  roots = once.roots;
-}

@@ -1,15 +1,8 @@
 -- The registers of interrupts that show or change only some of their bits.
 use Rattle.std.specs.Prelude.{bit_and, ◌&&◌, Bool, true, false}
-use Rattle.std.proofs.Common.{cond, ◌≡◌, ℕ, ◌+◌, ◌*◌, ◌/◌, ◌%◌, ◌^◌, ◌<◌, arith}
+use Rattle.std.proofs.Common.{cond, ◌≡◌, ℕ, ◌+◌, arith}
 use Rattle.arch_defs.specs.Bits.{bit, bit_number}
-use Rattle.csr_file.specs.Laws.{merged}
-use Rattle.csr_file.proofs.Masks.{masked, under, flag, replaced}
-
--- one flag among others that stay
-pub one_flag : (i : ℕ) (mask fixed v : ℕ) (b : Bool) → mask ≡ 2 ^ i → mask + fixed < 2 ^ 64 → bit_and v mask ≡ v / 2 ^ i % 2 * 2 ^ i
-    → bit_and (bit_number i b + fixed) mask ≡ bit_number i b → bit_number i (bit i v) + fixed ≡ merged mask (bit_number i b + fixed) v
-one_flag i mask fixed v b e m t k =
-    replaced mask fixed (bit_number i b + fixed) (bit_number i (bit i v) + fixed) v m (omega (arith, t, flag i v)) (omega (arith, k))
+use Rattle.csr_file.proofs.Masks.{masked, under, flag}
 
 -- vsie: hideleg's bits, and those of hie before
 pub vsie_taken : (a b c p q r : Bool) (v : ℕ)

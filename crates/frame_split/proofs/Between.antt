@@ -159,9 +159,3 @@ pub once_here : (need : Need) (free : Free) (slots : List ℕ) → IsNeed need �
 once_here need free slots limits room from blocks roots aligned =
     once_after need free (record { blocks = take need.blocks slots; first_root = free.root; first_table = free.table; spaces = need.spaces; entries = need.entries })
     limits (meets_here need free slots room) (numbered need free slots room from) refl refl blocks roots aligned
-
-pub between_here : (need : Need) (free : Free) (slots : List ℕ) → need.blocks ≤ length slots → ((i : ℕ) → i < need.blocks → slice_index slots i ≡ free.block + i)
-    → LiesBetween free (after_need need free) (record { blocks = take need.blocks slots; first_root = free.root; first_table = free.table; spaces = need.spaces; entries = need.entries })
-between_here need free slots room from =
-    lies_after need free (record { blocks = take need.blocks slots; first_root = free.root; first_table = free.table; spaces = need.spaces; entries = need.entries })
-    (meets_here need free slots room) (numbered need free slots room from) refl refl

@@ -1,6 +1,6 @@
 -- Sums of needs, need by need.
-use Rattle.std.proofs.Common.{◌≡◌, ℕ, ◌+◌, ◌*◌, ◌<◌, ◌≤◌, List, [], ◌∷◌, length, get_or, drop, arith}
-use Rattle.std.proofs.lemmas.List.{at_drop_more, at_drop_all}
+use Rattle.std.proofs.Common.{◌≡◌, ℕ, ◌+◌, ◌*◌, ◌<◌, List, [], ◌∷◌, length, get_or, drop, arith}
+use Rattle.std.proofs.lemmas.List.{at_drop_more}
 use Rattle.guest_specs.specs.declared.needs.Need.{Need}
 use Rattle.guest_specs.specs.Needs.{tables_for}
 use Rattle.frame_split.specs.Shares.{frames_of_all, blocks_of_all, roots_of_all, tables_of_all}
@@ -14,15 +14,6 @@ roots_more needs i d h = at_drop_more roots_of_all needs i d h
 pub tables_more : (needs : List Need) (i : ℕ) (d : Need) → i < length needs
     → tables_of_all (drop i needs) ≡ 1 + (get_or needs i d).spaces * tables_for (get_or needs i d).entries + tables_of_all (drop (i + 1) needs)
 tables_more needs i d h = at_drop_more tables_of_all needs i d h
-
-pub blocks_all : (needs : List Need) (i : ℕ) → length needs ≤ i → blocks_of_all (drop i needs) ≡ 0
-blocks_all needs i h = at_drop_all blocks_of_all needs i h
-
-pub roots_all : (needs : List Need) (i : ℕ) → length needs ≤ i → roots_of_all (drop i needs) ≡ 0
-roots_all needs i h = at_drop_all roots_of_all needs i h
-
-pub tables_all : (needs : List Need) (i : ℕ) → length needs ≤ i → tables_of_all (drop i needs) ≡ 0
-tables_all needs i h = at_drop_all tables_of_all needs i h
 
 -- the frames are those of the blocks, the roots and the other tables
 one_need : (b s e : ℕ) → 512 * b + 5 + s * (4 + tables_for e) ≡ 512 * b + 4 * (1 + s) + (1 + s * tables_for e)

@@ -4,7 +4,7 @@ use Rattle.std.proofs.lemmas.List.{get_or_past}
 use Rattle.std.proofs.lemmas.Nat.{mul-le}
 use Rattle.guest_save.specs.declared.versions.Version.TheVariants.{Third}
 use Rattle.guest_save.specs.Forms.{form}
-use Rattle.guest_save.specs.Laws.{IsNoForm, RoundTrip}
+use Rattle.guest_save.specs.Laws.{RoundTrip}
 use Rattle.guest_save.specs.Reading.{machine_in}
 use Rattle.guest_save.specs.Savable.{IsSavable}
 use Rattle.guest_save.specs.Saves.{SavedMachine}
@@ -89,10 +89,6 @@ form_is m bytes back is same =
       savable = subst (λ (m : Machine). IsSavable m) (sym given) is;
       form = ap (λ (m : Machine). form m) given ∙ sym same;
     }
-
--- and is read
-pub form_is_read : (bytes : List ℕ) → IsForm bytes → IsNoForm bytes → ⊥
-form_is_read bytes is none = none Third (machine_in bytes) is.savable tt is.form
 
 -- bytes of RAM, which is of whole blocks, and none behind its end
 pub within_ram : (ram : List ℕ) (offset blocks : ℕ) → length ram ≡ blocks * 2097152 → offset / 2097152 < blocks → offset < length ram

@@ -1,7 +1,7 @@
 -- A front that is compared with the bytes that a machine was read from.
 use Rattle.std.specs.Prelude.{bytes_eq}
 use Rattle.std.specs.Bool.{Decides}
-use Rattle.std.proofs.Common.{◌≡◌, ℕ, ◌-◌, inl, inr, Bool, true, false, cond, List, [], ◌∷◌, length, take, drop, refl, ap, ◌∙◌, sym, arith}
+use Rattle.std.proofs.Common.{◌≡◌, ℕ, ◌-◌, Bool, true, false, cond, List, [], ◌∷◌, length, take, drop, refl, ap, ◌∙◌, sym, arith}
 use Rattle.std.proofs.lemmas.Bool.{false≢true}
 use Rattle.std.proofs.lemmas.Slice.Eq.{bytes_eq-Decides}
 use Rattle.guest_save.proofs.ReadMachines.{ram_begins}
@@ -10,7 +10,6 @@ use Rattle.guest_save.specs.declared.versions.Version.{Version}
 use Rattle.guest_save.specs.Forms.{form_of, front_form}
 use Rattle.guest_save.specs.Reading.{machine_by}
 use Rattle.machine_defs.specs.Machine.{Machine}
-use Rattle.outside.specs.Faults.{Rose}
 use Rattle.outside.specs.Pieces.{Appends}
 use Rattle.replay.specs.declared.comparisons.Verdict.{Verdict}
 use Rattle.replay.specs.declared.comparisons.Verdict.TheVariants.{Same, Differs}
@@ -61,8 +60,3 @@ tells_form version m bytes k first last found read place new put stays says =
       same = λ same. decides.0 (sym (same_is (take k bytes) (front_form version m) (same ∙ is)));
       differs = λ n differs whole. differs_is (take k bytes) (front_form version m) n (differs ∙ is) (sym (decides.1 whole));
     }
-
--- a count of faults that stands at 0 did not rise
-pub never_rose : {P : Type 0} → Rose 0 0 → P
-never_rose (inl a) = absurd (omega (arith, a))
-never_rose (inr b) = absurd (omega (arith, b))

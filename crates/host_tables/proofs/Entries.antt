@@ -2,19 +2,13 @@
 use Rattle.std.proofs.Common.{◌≡◌, ℕ, ◌+◌, ◌*◌, ◌/◌, ◌<◌, ◌≤◌, ◌^◌, ◌⊎◌, inl, inr, true, List, length, sym, subst, ◌∙◌, arith}
 use Rattle.std.proofs.lemmas.Bool.{cases_lt}
 use Rattle.arch_defs.specs.Frames.{LieIn, Only, Same, Within, within}
-use Rattle.arch_defs.specs.Layouts.{Layout, NamesEachOnce, host_frames, named_by, root_frames, table_frames, in_tables}
+use Rattle.arch_defs.specs.Layouts.{Layout, NamesEachOnce, named_by, root_frames, table_frames, in_tables}
 use Rattle.guest_specs.specs.Needs.{tables_for}
-use Rattle.arch_defs.proofs.FrameSets.{only_none, only_both, only_more, in_range, range_within, left_within, right_within, kept, within_apart, apart_within}
+use Rattle.arch_defs.proofs.FrameSets.{only_both, in_range, range_within, kept, within_apart, apart_within}
 use Rattle.arch_defs.proofs.Rooms.{range_room, first_lies, second_lies, fewer_lie}
 use Rattle.table_words.specs.Words.{doubleword_at, with_word}
 use Rattle.table_words.proofs.Words.{only_word, word_here, word_kept, word_there}
 use Rattle.host_tables.specs.HostTable.{HasEntries, IsWrittenUpTo, root_word}
-
-pub written_none : (frame frames : ℕ) (entry : ℕ → ℕ) (memory : List ℕ) → IsWrittenUpTo frame frames 0 entry memory memory
-written_none frame frames entry memory = record {
-  entries = record { each = λ i h. absurd (omega (arith, h)) };
-  only = only_none (within frame frames) memory;
-}
 
 -- the frame of an entry
 pub entry_in : (frame frames i : ℕ) → 8 * i + 8 ≤ frames * 4096 → within frame frames ((512 * frame + i) / 512) ≡ true
@@ -77,13 +71,6 @@ root_stays part old new once entries only =
     (apart_within (within part.first_root 4) (within part.first_table 1) (table_frames part) (table_in part)
     (within_apart (within part.first_root 4) (root_frames part) (table_frames part) (root_in part) once.roots)) only)
     entries
-
-pub only_host : (part : Layout) (old between new : List ℕ) → Only (within part.first_root 4) old between → Only (within part.first_table 1) between new
-    → Only (host_frames part) old new
-only_host part old between new first second =
-    only_both (host_frames part) old between new
-    (only_more (within part.first_root 4) (host_frames part) old between (left_within (within part.first_root 4) (within part.first_table 1)) first)
-    (only_more (within part.first_table 1) (host_frames part) between new (right_within (within part.first_root 4) (within part.first_table 1)) second)
 
 pub root_fits : (i : ℕ) → i < 2048 → 8 * i + 8 ≤ 4 * 4096
 root_fits i h = omega arith

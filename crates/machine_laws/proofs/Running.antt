@@ -82,10 +82,3 @@ pub events_idle : (m : Machine) (k : ℕ) → m.platform.status ≢ Running → 
 unfolding events
 events_idle m zero h = refl
 events_idle m (suc k) h = rw (quiet m m.platform.status h, step_idle m h) (events_idle m k h)
-
--- the rest of a run of k after i steps
-pub run_next : (m : Machine) (k i : ℕ) → i < k → run m (k - i) ≡ run (step m) (k - (i + 1))
-run_next m k i h = let e : k - i - 1 ≡ k - (i + 1) = omega arith in let some : 0 < k - i = omega arith in rw (run_more m (k - i) some, e) refl
-
-pub events_next : (m : Machine) (k i : ℕ) → i < k → events m (k - i) ≡ events_by m m.platform.status ++ events (step m) (k - (i + 1))
-events_next m k i h = let e : k - i - 1 ≡ k - (i + 1) = omega arith in let some : 0 < k - i = omega arith in rw (events_more m (k - i) some, e) refl

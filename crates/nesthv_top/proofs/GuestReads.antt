@@ -17,7 +17,6 @@ use Rattle.run_config.specs.declared.guests.FreshGuest.{FreshGuest}
 use Rattle.run_config.specs.declared.guests.Origin.{Origin}
 use Rattle.run_config.specs.declared.guests.Origin.TheVariants.{Fresh, Saved}
 use Rattle.run_config.specs.Configurations.{IsFreshWithin, IsGuestWithin, IsOriginWithin, IsSourceWithin}
-use Rattle.run_config.specs.Records.{bad_record}
 use Rattle.run_config.proofs.Recording.{records_are_inputs}
 use Rattle.run_config.specs.declared.guests.GuestSettings.{GuestSettings}
 use Rattle.nesthv_top.specs.declared.ends.FreshFiles.{FreshFiles}
@@ -26,7 +25,7 @@ use Rattle.nesthv_top.specs.declared.ends.GuestFiles.TheVariants as files_read
 use Rattle.nesthv_top.specs.declared.ends.LoadEnd.{LoadEnd}
 use Rattle.nesthv_top.specs.Contents.{guest_of, guest_ram_size, inputs_from, source_by, sources_of}
 use Rattle.nesthv_top.specs.Loads.{all_read_for, read_by, read_for, source_with, sources_with, AreFitting, AreGood, FitsOrigin, IsFitting, IsFreshFitting}
-use Rattle.nesthv_top.specs.Reads.{guest_steps, guests_steps, image_fault, origin_steps, records_fault, saved_fault}
+use Rattle.nesthv_top.specs.Reads.{guest_steps, guests_steps, image_fault, origin_steps, saved_fault}
 use Rattle.nesthv_top.specs.Plans.{name_of_source}
 use Rattle.nesthv_top.specs.Seen.{names_in, names_of_sources}
 use Rattle.nesthv_top.specs.Steps.{asks_in, ArePassed, IsShort, StopAs}
@@ -39,13 +38,6 @@ image_fits number guest image fits = rw (le-leb (length image) (guest_ram_size g
 pub image_too_long : (number : ℕ) (guest : FreshGuest) (image : List ℕ) → guest_ram_size guest < length image
     → image_fault number guest image ≡ Some (fault.image_long number (length image))
 image_too_long number guest image long = rw (lt-leb (length image) (guest_ram_size guest) long) refl
-
--- whether a file of inputs is good
-pub records_good : (number : ℕ) (bytes : List ℕ) → bad_record bytes ≡ None → records_fault number bytes ≡ None
-records_good number bytes none = rw none refl
-
-pub records_bad : (number found : ℕ) (bytes : List ℕ) → bad_record bytes ≡ Some found → records_fault number bytes ≡ Some (fault.input_file number found)
-records_bad number found bytes bad = rw bad refl
 
 -- whether a file is a saved machine
 pub saved_good : (number : ℕ) (bytes : List ℕ) → is_saved bytes ≡ true → saved_fault number bytes ≡ None

@@ -1,7 +1,7 @@
 -- Turns after each of which a block moves, one after the other.
 use Rattle.std.proofs.Common.{◌≡◌, ◌≢◌, ◌∙◌, ℕ, zero, suc, ◌+◌, ◌-◌, ◌^◌, ◌<◌, ◌≤◌, ◌==◌, ◌⊎◌, inl, inr, Bool, true, false, cond, List, [], ◌∷◌, ◌++◌, length, take, drop, get_or, replicate, set, Option, Some, None, refl, ap, sym, subst, arith}
 use Rattle.std.proofs.lemmas.Bool.{cases_Bool, eqb-true, eq-eqb, both_ways}
-use Rattle.std.proofs.lemmas.List.{get_or-set_other, get_or-set_same, length-set, take_all, take_more}
+use Rattle.std.proofs.lemmas.List.{get_or-set_other, get_or-set_same, length-set, take_more}
 use Rattle.std.proofs.lemmas.List.Sums.{sum_by-cons}
 use Rattle.std.specs.List.{All}
 use Rattle.std.specs.Prelude.{IfSome}
@@ -228,11 +228,6 @@ retires kept turns first began moved t g host after left tally moves guest betwe
     by h (inr other) is_gone =
         let apart : h ≢ g = λ e. both_ways (g == h) other (rw e (eq-eqb g g refl)) in
         between.gone h (sym (get_or-set_other host.retired g h true false apart) ∙ ap (λ flags. is_set flags h) (sym is.retired) ∙ is_gone)
-
--- no turn is left
-pub moved_all : (kept : Option ℕ) (turns : List (ℕ × ℕ)) (first : List Machine) (began : Counts) (moved t : ℕ) (host : Hosted) (left : List ℕ) (tally : Counts) (moves : ℕ) → length turns ≤ t
-    → Moving kept turns first began moved t host left tally moves → host.machines ≡ hosted_as host.retired (with_turns turns first)
-moved_all kept turns first began moved t host left tally moves end inv = inv.machines ∙ ap (λ turns. hosted_as host.retired (with_turns turns first)) (take_all t turns end)
 
 -- nothing has moved yet
 pub moving_begins : (kept : Option ℕ) (turns : List (ℕ × ℕ)) (began : Counts) (moved : ℕ) (host : Hosted) (left : List ℕ) → length host.retired ≡ 16 → length left ≡ 16

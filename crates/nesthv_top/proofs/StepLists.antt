@@ -148,12 +148,6 @@ stopped_later xs ys made made' (Refused found) before between after one two = (
 stopped_later xs ys made made' (ReadFault n) before between after one two = failed_later xs ys made made' n before between after one two
 stopped_later xs ys made made' (NoMemory n) before between after one two = short_later xs ys made made' n before between after one two
 
--- passed, and then ended
-pub ended_later : {A : Type 0} (xs ys : List Step) (made made' made'' : ℕ) (result : Result A LoadEnd) (before between after : Option (List Ask))
-    → ArePassed xs made before made' between → EndAs ys made' between result made'' after → EndAs (xs ++ ys) made before result made'' after
-ended_later xs ys made made' made'' (Ok a) before between after one two = passed_then xs ys made made' made'' before between after one two
-ended_later xs ys made made' made'' (Err end) before between after one two = stopped_later xs ys made made' end before between after one two
-
 -- what is left of steps is left of more
 takes_then : (xs ys : List Step) → TakesMemory xs → TakesMemory (xs ++ ys)
 takes_then [] ys takes = absurd takes

@@ -64,14 +64,4 @@ impl Config {
     {
         self.spare
     }
-
-    /// The guests and the turns, given back.
-    pub fn into_parts(self) -> (Vec<GuestSettings>, Turns)
-        ensures guests { result.0.items ≡ self.guests }
-        ensures turns { result.1 ≡ self.turns }
-        ensures limits { IsWithinLimits self }
-    {
-        let Config { guests, turns, .. } = self;
-        (guests, turns)
-    }
 }

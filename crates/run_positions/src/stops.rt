@@ -1,6 +1,6 @@
 // Where a run is to stop.
 
-ghost use Rattle.std.specs.Prelude.{◌≡◌, ◌∷◌, [], ◌++◌, OnErr, OnOk, length, ◌==◌, ◌&&◌};
+ghost use Rattle.std.specs.Prelude.{◌≡◌, ◌∷◌, [], ◌++◌, OnErr, OnOk};
 ghost use Rattle.std.specs.List.{list_any};
 ghost use Rattle.run_positions.specs.Stops.{has_changed, goes_on, stops_at, is_end};
 
@@ -53,13 +53,6 @@ impl Stops {
     {
         self.bytes.push((offset, value))?;
         Ok(())
-    }
-
-    /// Whether there is none.
-    pub fn are_none(&self) -> bool
-        ensures { result ≡ (length self.now.pcs == 0 && length self.now.bytes == 0) }
-    {
-        self.pcs.is_empty() && self.bytes.is_empty()
     }
 
     /// Whether a stop holds of the machine that is run.

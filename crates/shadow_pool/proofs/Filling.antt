@@ -14,11 +14,8 @@ use Rattle.machine_defs.specs.Fills.{filled_front}
 use Rattle.machine_laws.specs.FrontSpaces.{FrontIs}
 use Rattle.machine_laws.proofs.FrontSpaces.{in_front}
 use Rattle.shadow_pool.specs.declared.slots.Slot.{Slot}
-use Rattle.shadow_pool.specs.Slots.{ArePooled, HasSpaceFor, filled_for, has_key, key_is, space_if, space_of, spaces_in}
-use Rattle.shadow_pool.proofs.Entering.{all_spare}
+use Rattle.shadow_pool.specs.Slots.{HasSpaceFor, filled_for, has_key, key_is, space_if, space_of, spaces_in}
 use Rattle.shadow_pool.proofs.Keys.{not_none}
-use Rattle.shadow_pool.proofs.Ordering.{pairs_first}
-use Rattle.shadow_pool.specs.Slots.{ComesBefore}
 
 -- where no table has a value of hgatp
 module _ {X : Type 0} (p : X → Bool) where
@@ -40,10 +37,6 @@ module _ {X : Type 0} (p : X → Bool) where
           let there : position p xs ≡ Some (position_or_len p xs) = rw (lt-ltb (position_or_len p xs) (length xs) (omega (arith, first, h))) refl in
           absurd (not_none (position_or_len p xs) (position p xs) there none)
       by (inr is) = is
-
--- tables behind one that is in no use have no spaces
-pub spare_rest : (slot : Slot) (slots : List Slot) → ArePooled (slot ∷ slots) → slot.key ≡ None → spaces_in slots ≡ []
-spare_rest slot slots are none = all_spare slots (λ k d h. (pairs_first ComesBefore slot slots are.order k d h).spare none)
 
 -- the first table for a value of hgatp is filled
 filled_here : (key : GuestRoot) (most : ℕ) (o : Option GuestRoot) (es : List Entry) (entry : Entry) (rest : List Space) → key_is key o ≡ true

@@ -103,6 +103,3 @@ changed_one memory i value fits = below_one (length memory / 8) i memory (with_w
 
 pub changed_then : (a b c : List ℕ) → length b ≡ length a → changed a c ≤ changed a b + changed b c
 changed_then a b c same = subst (λ n. changed_below (length a / 8) a c ≤ changed_below (length a / 8) a b + changed_below (n / 8) b c) (sym same) (below_then (length a / 8) a b c)
-
-pub changed_three : (a b c d : List ℕ) → length b ≡ length a → length c ≡ length b → changed a b ≤ 1 → changed b c ≤ 1 → changed c d ≤ 1 → changed a d ≤ 3
-changed_three a b c d same same' one two three = omega (arith, changed_then a b d same, changed_then b c d same', one, two, three)

@@ -20,7 +20,7 @@ use Rattle.two_stage_walk.specs.declared.second_answers.SecondAnswer.TheVariants
 use Rattle.two_stage_walk.specs.declared.translating.Place.{Place}
 use Rattle.two_stage_walk.specs.declared.translating.Place.TheVariants as made
 use Rattle.two_stage_walk.specs.Answers.{placed, placed_if}
-use Rattle.two_stage_walk.specs.SecondAnswers.{answer_at_end, answer_under, is_device_answer, place_or_fault, place_in_memory, trap_of}
+use Rattle.two_stage_walk.specs.SecondAnswers.{answer_at_end, answer_under, place_or_fault, place_in_memory, trap_of}
 
 -- the place, the device page and the trap
 pub place_alike : (address : ℕ) (end : SecondWalkEnd) → place_in_memory (answer_at_end address end) ≡ place_under address end
@@ -28,12 +28,6 @@ place_alike address (Leaf leaf) = refl
 place_alike address (Device leaf) = refl
 place_alike address GuestPageFault = refl
 place_alike address AccessFault = refl
-
-pub device_alike : (address : ℕ) (end : SecondWalkEnd) → is_device_answer (answer_at_end address end) ≡ is_device_end end
-device_alike address (Leaf leaf) = refl
-device_alike address (Device leaf) = refl
-device_alike address GuestPageFault = refl
-device_alike address AccessFault = refl
 
 trap_by_end : (missing : MissingPlace) (address : ℕ) (end : SecondWalkEnd) → trap_of missing (answer_at_end address end) ≡ missing_place_by missing end
 trap_by_end missing address (Leaf leaf) = refl

@@ -53,13 +53,6 @@ place_in_memory OnDevice = None
 place_in_memory GuestPageFault = None
 place_in_memory AccessFault = None
 
--- whether it is on the device page
-abbrev pub is_device_answer : SecondAnswer → Bool
-is_device_answer (InMemory place) = false
-is_device_answer OnDevice = true
-is_device_answer GuestPageFault = false
-is_device_answer AccessFault = false
-
 -- the trap of an access of which this is made. With a place in memory it has none, so the line for it is for
 -- completeness
 abbrev pub trap_of : MissingPlace → SecondAnswer → Trap

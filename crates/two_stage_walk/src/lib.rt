@@ -11,7 +11,7 @@ mod virtual_addresses;
 mod walked_entries;
 
 pub use arch_defs::{Found, MissingPlace, SecondWalkEnd};
-pub use devices::{is_device_now, is_on_device};
+pub use devices::is_on_device;
 pub use guest_addresses::{second_place, second_root_of, second_walk};
 pub use noting::second_noted;
 pub use phys_mem::Mem;
