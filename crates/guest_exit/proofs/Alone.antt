@@ -11,7 +11,7 @@ use Rattle.arch_defs.specs.Ram.{ram_of}
 use Rattle.arch_defs.specs.Spaces.{Space, entered, fenced}
 use Rattle.arch_defs.specs.WalkedEntries.{folds}
 use Rattle.arch_defs.specs.Waits.{wake_moment}
-use Rattle.arch_defs.proofs.FrameSets.{left_within, only_more, only_none}
+use Rattle.arch_defs.proofs.FrameSets.{left_within, only_more}
 use Rattle.machine_defs.specs.declared.events.Event.TheVariants.{System}
 use Rattle.machine_defs.specs.Fills.{missing_entry}
 use Rattle.machine_defs.specs.Machine.{Machine, Platform, has_enabled_interrupt, stepped_to, ticked, waited, waited_until, with_registers}
@@ -46,9 +46,6 @@ machine_is old new p memory fixed e =
 pub stays_by : (old new : Guest) → KeepsSpaces old new → KeepsLayout old new
 stays_by old new keeps = record { part = keeps.part; device = keeps.device; pool = rw keeps.pool refl; entry_room = rw keeps.pool refl; space_room = rw keeps.pool refl }
 
-pub nothing_changed : (old new : Guest) (memory : List ℕ) → IsPlaced old memory → KeepsSpaces old new → KeepsOutside old memory new memory
-nothing_changed old new memory at keeps = record { only = only_none _ memory; tidy = rw keeps.pool at.tidy; keeps = stays_by old new keeps }
-
 pub only_of_blocks : (guest : Guest) (memory changed : List ℕ) → Only (in_blocks guest.part.blocks) memory changed → Only (changed_by guest) memory changed
 only_of_blocks guest memory changed only =
     only_more (in_blocks guest.part.blocks) (changed_by guest) memory changed (left_within (in_blocks guest.part.blocks) (pool_frames guest.pool)) only
@@ -59,10 +56,6 @@ blocks_changed old new memory changed at keeps only = record {
   tidy = rw keeps.pool (tidy_by_blocks old.part old.pool memory changed at.once at.own at.tidy only);
   keeps = stays_by old new keeps;
 }
-
--- the tables are there whatever the guest's state is
-pub holds_tables : (guest : Guest) (virt : Virtual) (memory : List ℕ) → IsPlaced guest memory → HoldsTables (with_state guest virt) memory
-holds_tables guest virt memory at = record { once = at.once; held = at.held; own = at.own; tidy = at.tidy }
 
 pub holds_with : (guest : Guest) (virt : Virtual) (memory : List ℕ) → HoldsTables guest memory → HoldsTables (with_state guest virt) memory
 holds_with guest virt memory at = record { once = at.once; held = at.held; own = at.own; tidy = at.tidy }

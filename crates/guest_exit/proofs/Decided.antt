@@ -1,5 +1,5 @@
 -- An instruction on which the mode decides: its word, its op and its effect.
-use Rattle.std.specs.Prelude.{nat_lt, option_and_then, if◌then◌else◌}
+use Rattle.std.specs.Prelude.{option_and_then, if◌then◌else◌}
 use Rattle.std.proofs.Common.{◌≡◌, List, ℕ, ◌^◌, ◌<◌, Bool, true, false, Option, Some, None, refl, subst, ap}
 use Rattle.std.proofs.lemmas.Option.{same_Some}
 use Rattle.arch_defs.specs.declared.csr_names.CsrEnd.{CsrEnd}
@@ -37,7 +37,7 @@ use Rattle.rv64_asm.proofs.Decoded as coded
 use Rattle.rv64_asm.proofs.SystemOps.{op_has_one_word}
 use Rattle.hcsr_emulation.specs.Ends.{is_decided}
 use Rattle.hcsr_emulation.proofs.Decided.{asks_decided, decided_system}
-use Rattle.guest_exit.specs.ExitCases.{decided_at, decided_end, decided_in, if_decided}
+use Rattle.guest_exit.specs.ExitCases.{decided_end, decided_in}
 use Rattle.guest_exit.specs.HartExit.{IsDecidedOp, IsWaitOrFence}
 
 -- the effect of the instruction that a word is, if the mode decides on it
@@ -83,21 +83,6 @@ ends_as through s word p i small =
 by_test : (word : ℕ) (o p : Op) (test : Bool) → is_decided p ≡ test → op_of word ≡ Some p → (if test then Some p else None) ≡ Some o → IsDecidedOp o
 by_test word o p true decided is e = subst IsDecidedOp (same_Some p o e) (record { decided = decided; fits = (coded.decoded word p is).fits })
 by_test word o p false decided is e = cc
-
-by_op : (word : ℕ) (o : Op) (given : Option Op) → op_of word ≡ given → option_and_then if_decided given ≡ Some o → IsDecidedOp o
-by_op word o (Some p) is e = by_test word o p (is_decided p) refl is e
-by_op word o None is e = cc
-
-decided_is : (word : ℕ) (o : Op) → decided_in word ≡ Some o → IsDecidedOp o
-unfolding decided_in
-decided_is word o e = by_op word o (op_of word) refl e
-
-by_size : (word : ℕ) (o : Op) (small : Bool) → (if small then decided_in word else None) ≡ Some o → IsDecidedOp o
-by_size word o true e = decided_is word o e
-by_size word o false e = cc
-
-pub decided_at_is : (word : ℕ) (o : Op) → decided_at word ≡ Some o → IsDecidedOp o
-decided_at_is word o e = by_size word o (nat_lt word (2 ^ 32)) e
 
 -- a WFI or a fence makes no access to data
 abbrev MakesNone : Outcome → Type 0

@@ -20,10 +20,6 @@ kept_0 : (h : ℕ) → bit 0 (hedeleg_bits h) ≡ bit 0 h
 unfolding hedeleg_bits
 kept_0 h = ap (λ n. n == 1) (omega arith)
 
-kept_1 : (h : ℕ) → bit 1 (hedeleg_bits h) ≡ bit 1 h
-unfolding hedeleg_bits
-kept_1 h = ap (λ n. n == 1) (omega arith)
-
 kept_2 : (h : ℕ) → bit 2 (hedeleg_bits h) ≡ bit 2 h
 unfolding hedeleg_bits
 kept_2 h = ap (λ n. n == 1) (omega arith)
@@ -36,17 +32,9 @@ kept_4 : (h : ℕ) → bit 4 (hedeleg_bits h) ≡ bit 4 h
 unfolding hedeleg_bits
 kept_4 h = ap (λ n. n == 1) (omega arith)
 
-kept_5 : (h : ℕ) → bit 5 (hedeleg_bits h) ≡ bit 5 h
-unfolding hedeleg_bits
-kept_5 h = ap (λ n. n == 1) (omega arith)
-
 kept_6 : (h : ℕ) → bit 6 (hedeleg_bits h) ≡ bit 6 h
 unfolding hedeleg_bits
 kept_6 h = ap (λ n. n == 1) (omega arith)
-
-kept_7 : (h : ℕ) → bit 7 (hedeleg_bits h) ≡ bit 7 h
-unfolding hedeleg_bits
-kept_7 h = ap (λ n. n == 1) (omega arith)
 
 kept_8 : (h : ℕ) → bit 8 (hedeleg_bits h) ≡ bit 8 h
 unfolding hedeleg_bits
@@ -67,9 +55,6 @@ kept_15 h = ap (λ n. n == 1) (omega arith)
 pub own_0 : IsOwn 0
 own_0 = record { small = refl; own = refl; kept = kept_0; other = refl; fault = refl }
 
-pub own_1 : IsOwn 1
-own_1 = record { small = refl; own = refl; kept = kept_1; other = refl; fault = refl }
-
 pub own_2 : IsOwn 2
 own_2 = record { small = refl; own = refl; kept = kept_2; other = refl; fault = refl }
 
@@ -79,14 +64,8 @@ own_3 = record { small = refl; own = refl; kept = kept_3; other = refl; fault = 
 pub own_4 : IsOwn 4
 own_4 = record { small = refl; own = refl; kept = kept_4; other = refl; fault = refl }
 
-pub own_5 : IsOwn 5
-own_5 = record { small = refl; own = refl; kept = kept_5; other = refl; fault = refl }
-
 pub own_6 : IsOwn 6
 own_6 = record { small = refl; own = refl; kept = kept_6; other = refl; fault = refl }
-
-pub own_7 : IsOwn 7
-own_7 = record { small = refl; own = refl; kept = kept_7; other = refl; fault = refl }
 
 pub own_8 : IsOwn 8
 own_8 = record { small = refl; own = refl; kept = kept_8; other = refl; fault = refl }

@@ -1,5 +1,5 @@
 -- Which exit a trap of the hart is, and what is known of a step by it.
-use Rattle.std.specs.Prelude.{◌==◌, ◌&&◌, ◌↔◌, nat_lt, option_and_then, ◌-◌}
+use Rattle.std.specs.Prelude.{◌==◌, ◌&&◌, ◌↔◌, nat_lt, option_and_then}
 use Rattle.std.proofs.Common.{cond, ◌≡◌, ℕ, ◌^◌, ◌<◌, Bool, true, false, List, Option, Some, None, refl, ap, sym, arith, ◌∙◌}
 use Rattle.arch_defs.specs.declared.cached.Entry.{Entry}
 use Rattle.arch_defs.specs.declared.first.FirstEntry.{FirstEntry}
@@ -10,7 +10,6 @@ use Rattle.arch_defs.specs.declared.walks.MissingPlace.{MissingPlace}
 use Rattle.arch_defs.specs.CachedEntries.{device_by_entries}
 use Rattle.arch_defs.specs.Spaces.{front}
 use Rattle.arch_defs.specs.Traps.{is_virtual}
-use Rattle.arch_defs.specs.Walk.{guest_bits}
 use Rattle.arch_defs.specs.WalkedEntries.{entry_by_walk, folds}
 use Rattle.op_defs.specs.declared.ops.Op.{Op}
 use Rattle.op_defs.specs.Table.{op_of}
@@ -22,9 +21,8 @@ use Rattle.machine_defs.specs.Outcomes.{Missed}
 use Rattle.machine_defs.specs.Tries.{device_of, try, unplaced}
 use Rattle.guest_exit.specs.declared.hart_exit.Handled.{Handled}
 use Rattle.guest_exit.specs.declared.hart_exit.Handled.TheVariants as handled
-use Rattle.guest_exit.specs.ExitCases.{Exit, Instruction, Missing, Call, Own, IsLeft, data_wanted, decided_at, decided_in, entry_for, entry_for_exit, exit_of, far_exit, having_found, if_decided, instruction_exit, is_guest_page_code, missing_place_exit, other_exit, try_at}
-use Rattle.guest_exit.specs.HartExit.{IfInstruction, IsDecidedOp, IsHandled, IsMadeOf, status_after}
-use Rattle.guest_exit.proofs.Decided.{decided_at_is}
+use Rattle.guest_exit.specs.ExitCases.{Exit, Instruction, Missing, Call, Own, IsLeft, data_wanted, decided_at, decided_in, entry_for, entry_for_exit, exit_of, having_found, if_decided, instruction_exit, is_guest_page_code, missing_place_exit, other_exit, try_at}
+use Rattle.guest_exit.specs.HartExit.{IsHandled, IsMadeOf, status_after}
 use Rattle.guest_exit.proofs.ForGood.{never_waits, waits_exactly}
 
 -- a trap of none of the host's codes, by the guest's V
@@ -56,32 +54,6 @@ page_exit_is v trap page = rw page refl
 pub left_as : (m : Machine) (found : List FirstEntry) (tried : Tried) (lacks : Option Entry) (trap : Trap) (left : Exit) → exit_of m.platform.virt trap ≡ left → tried ≡ try_at found m left
     → lacks ≡ entry_for_exit m left → IsLeft m found tried lacks (exit_of m.platform.virt trap)
 left_as m found tried lacks trap left is step missing_entry = rw is (record { step = step; fills = missing_entry })
-
--- an instruction that is left is one on which the mode decides, and its fields fit
-either_decided : (b : Bool) (one other : Exit) → IfInstruction one → IfInstruction other → IfInstruction (cond b one other)
-either_decided true one other h i = h
-either_decided false one other h i = i
-
-far_decided : (v : Virtual) (trap : Trap) (folding : Bool) → IfInstruction (far_exit v trap folding)
-far_decided v trap true = tt
-far_decided v trap false = tt
-
-missing_place_decided : (v : Virtual) (trap : Trap) (folding : Bool) → IfInstruction (missing_place_exit v trap folding)
-missing_place_decided v trap folding = either_decided (nat_lt trap.tval2 (2 ^ (guest_bits - 2))) _ _ tt (far_decided v trap folding)
-
-instruction_decided : (trap : Trap) (found : Option Op) → ((o : Op) → found ≡ Some o → IsDecidedOp o) → IfInstruction (instruction_exit trap found)
-instruction_decided trap (Some o) is = is o refl
-instruction_decided trap None is = tt
-
-other_decided : (trap : Trap) (virtual : Bool) → IfInstruction (other_exit trap virtual)
-other_decided trap true = tt
-other_decided trap false = tt
-
-pub exit_decided : (v : Virtual) (trap : Trap) → IfInstruction (exit_of v trap)
-unfolding exit_of
-exit_decided v trap =
-    either_decided (is_guest_page_code trap.cause) _ _ (missing_place_decided v trap (folds v))
-    (either_decided (trap.cause == VIRTUAL_INSTRUCTION) _ _ (instruction_decided trap (decided_at trap.tval) (decided_at_is trap.tval)) (other_decided trap (is_virtual v.mode)))
 
 -- what is made of the exit is made of the machine's next step
 pub handled_by : (m after : Machine) (left : Exit) (found : List FirstEntry) (result : Handled) → IsLeft m found (try m) (missing_entry m) left → IsMadeOf left found result m after → IsHandled result m after

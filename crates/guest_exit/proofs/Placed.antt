@@ -1,9 +1,8 @@
 -- A guest in machine memory, after steps of its lone machine.
-use Rattle.std.proofs.Common.{◌≡◌, ℕ, ◌*◌, ◌%◌, Option, List, length, refl, ap, subst, sym, arith, ◌∙◌}
+use Rattle.std.proofs.Common.{◌≡◌, ℕ, ◌*◌, ◌%◌, Option, List, length, refl, subst, sym, arith, ◌∙◌}
 use Rattle.std.specs.Prelude.{true, false}
 use Rattle.std.specs.List.{All}
 use Rattle.std.proofs.lemmas.List.Elements.{All-nil}
-use Rattle.arch_defs.specs.CsrBits.{guest_root_of, hgatp_bits}
 use Rattle.arch_defs.specs.Frames.{Apart, Only, Within, in_blocks}
 use Rattle.arch_defs.specs.Layouts.{Layout, NamesEachOnce, host_frames, named_by}
 use Rattle.arch_defs.specs.Spaces.{Space}
@@ -53,10 +52,6 @@ whole part pool m memory at = rw (ram_size_of part pool m memory at) (whole_page
 
 pub reserves : (part : Layout) (pool : Pooled) (m : Machine) (memory : List ℕ) → IsAt part pool m memory → ReservesInRam m
 reserves part pool m memory at = subst (λ size. ReservesBelow size m.platform.virt.reservation) (sym (ram_size_of part pool m memory at)) at.reserved
-
--- hgatp of a guest is a value that it can hold
-pub hgatp_is_held : (guest : Guest) (memory : List ℕ) → IsPlaced guest memory → guest_root_of (hgatp_bits guest.virt.csrs.hgatp) ≡ guest.virt.csrs.hgatp
-hgatp_is_held guest memory at = ap (λ csrs. csrs.hgatp) at.storable.csrs
 
 -- what a machine is after a step, a fill or a run
 record IsKept (before after : Machine) : Type 0 where

@@ -3,8 +3,6 @@ use Rattle.std.specs.Prelude.{◌==◌}
 use Rattle.std.proofs.Common.{◌≡◌, ℕ, ◌+◌, ◌∙◌, Bool, List, [], Option, Some, None, true, false, refl, ap, sym, subst}
 use Rattle.arch_defs.specs.declared.levels.Level.{Level}
 use Rattle.arch_defs.specs.declared.levels.Level.TheVariants as level
-use Rattle.arch_defs.specs.declared.modes.Access.{Access}
-use Rattle.arch_defs.specs.declared.modes.Access.TheVariants.{Fetch, Load, Store, ExecLoad, Implicit}
 use Rattle.arch_defs.specs.declared.modes.Mode.{Mode}
 use Rattle.arch_defs.specs.declared.modes.Mode.TheVariants.{HS, U, VS, VU}
 use Rattle.arch_defs.specs.declared.modes.Trap.{Trap}
@@ -16,7 +14,7 @@ use Rattle.arch_defs.specs.declared.registers.Virtual.{Virtual}
 use Rattle.arch_defs.specs.Interrupts.{interrupt_of, vs_bit}
 use Rattle.arch_defs.specs.Frames.{in_blocks}
 use Rattle.arch_defs.specs.Layouts.{Layout}
-use Rattle.arch_defs.specs.Traps.{entered_at, entered_vs, exception, is_delegated, is_virtual, target, faults_of}
+use Rattle.arch_defs.specs.Traps.{entered_at, entered_vs, exception, is_delegated, is_virtual, target}
 use Rattle.arch_defs.proofs.FrameSets.{only_none}
 use Rattle.machine_defs.specs.declared.events.Event.TheVariants as event
 use Rattle.machine_laws.specs.HostPlaces.{in_ram, memory_place}
@@ -39,7 +37,7 @@ use Rattle.rv64_hart.specs.Steps.{HartEnd, end_by, found_by_attempt, next_attemp
 use Rattle.guest_exit.proofs.Decided.{ends_as, instruction_of, is_decided_in}
 use Rattle.guest_exit.proofs.ExitCases.{instruction_exit_is, left_as, other_exit_is}
 use Rattle.guest_exit.proofs.Interrupts.{IsDue}
-use Rattle.guest_exit.proofs.Delegation.{IsOwn, never_10, never_22, own_1, own_5, own_7}
+use Rattle.guest_exit.proofs.Delegation.{IsOwn, never_10, never_22}
 use Rattle.guest_exit.proofs.Stands.{Own, Call, Nested, Left, Traps}
 use Rattle.arch_defs.specs.declared.cached.Entry.{Entry}
 use Rattle.arch_defs.specs.declared.first.FirstEntry.{FirstEntry}
@@ -224,14 +222,6 @@ pub exception_follows : (part : Layout) {pool : Pooled} (root : GuestRoot) (m : 
     → FollowsTry part root m found (trapped (having_found found m) (exception m.platform.virt.mode cause tval)) lacks memory
     (taken part root m (all_filled m.platform.virt.first found) memory (exception (hosted_mode m.platform.virt.mode) cause tval))
 exception_follows part root m memory found lacks cause tval good at ready = exception_by part root m memory found lacks cause tval good at ready (is_virtual m.platform.virt.mode) refl
-
--- an access fault is the guest's own
-pub access_fault_own : (access : Access) → IsOwn (faults_of access).access
-access_fault_own Fetch = own_1
-access_fault_own Load = own_5
-access_fault_own Store = own_7
-access_fault_own ExecLoad = own_5
-access_fault_own Implicit = own_5
 
 -- the traps that the hart never delegates
 kept_10 : (root : GuestRoot) (virtual : Bool) (csrs : Csrs) → is_delegated (hosted_csrs root virtual csrs) false ECALL_FROM_VS ≡ false

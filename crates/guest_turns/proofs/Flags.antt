@@ -1,8 +1,8 @@
 -- Flags of blocks and of guests.
-use Rattle.std.proofs.Common.{◌≡◌, ◌≢◌, ℕ, zero, suc, ◌+◌, ◌<◌, ◌≤◌, ◌⊎◌, inl, inr, Bool, true, false, cond, List, [], ◌∷◌, Some, None, length, get_or, nat_lt, set, replicate, drop, slice_index, refl, sym, ap, ◌∙◌, arith, length-set}
+use Rattle.std.proofs.Common.{◌≡◌, ◌≢◌, ℕ, zero, suc, ◌+◌, ◌<◌, ◌≤◌, ◌⊎◌, inl, inr, Bool, true, false, cond, List, [], ◌∷◌, Some, None, length, nat_lt, set, replicate, slice_index, refl, sym, ap, ◌∙◌, arith, length-set}
 use Rattle.std.specs.List.{position}
 use Rattle.std.proofs.lemmas.Bool.{both_ways, cases_eq, cases_lt, ltb-false, ltb-true}
-use Rattle.std.proofs.lemmas.List.{drop_all, get_or-set_other, get_or-set_same, get_or_past, length-replicate}
+use Rattle.std.proofs.lemmas.List.{get_or-set_other, get_or-set_same, get_or_past, length-replicate}
 use Rattle.std.proofs.lemmas.List.Folds.{sum_by-replicate}
 use Rattle.std.proofs.lemmas.List.Sums.{fails_before_first, passes_at_first, sum_by-cons, sum_by-set}
 use Rattle.arch_defs.specs.Frames.{within}
@@ -75,18 +75,6 @@ freed (block ∷ blocks) flags b is = by (freed blocks (set flags block true) b 
     by (inr (i, few, at)) way = inr (suc i, omega (arith, few), at)
     by (inl was) (inl same) = inr (0, omega arith, sym same)
     by (inl was) (inr other) = inl (sym (get_or-set_other flags block b true false other) ∙ was)
-
-pub freed_next : (blocks : List ℕ) (flags : List Bool) (i d : ℕ) → i < length blocks
-    → with_free (drop i blocks) flags ≡ with_free (drop (i + 1) blocks) (set flags (get_or blocks i d) true)
-freed_next [] flags i d h = absurd (omega (arith, h))
-freed_next (block ∷ blocks) flags zero d h = refl
-freed_next (block ∷ blocks) flags (suc i) d h =
-    let next : suc i + 1 ≡ suc (i + 1) = omega arith in
-    freed_next blocks flags i d (omega (arith, h))
-    ∙ ap (λ k. with_free (drop k (block ∷ blocks)) (set flags (get_or blocks i d) true)) (sym next)
-
-pub freed_all : (blocks : List ℕ) (flags : List Bool) (i : ℕ) → length blocks ≤ i → with_free (drop i blocks) flags ≡ flags
-freed_all blocks flags i all = ap (λ left. with_free left flags) (drop_all i blocks all)
 
 -- no flag of a list of none
 pub none_set : (n i : ℕ) → is_set (replicate n false) i ≡ false
