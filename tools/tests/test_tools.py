@@ -25,7 +25,7 @@ class CommonTest(ToolTest):
                      "bench/folded.sh", "bench/compare.sh", "bench/work.sh", "bench/save.sh",
                      "bench/hypervisors.py", "bench/refused.sh", "bench/hostile-outside.sh", "conformance/build",
                      "conformance/run", "dist/make", "dist/check", "dist/sources", "dist/package", "docs/book", "docs/clauses",
-                     "docs/commands", "tools/test"):
+                     "docs/commands", "docs/names", "tools/test"):
             ran = self.tool(name, "--help")
             self.check_plain(ran, 0)
             self.assertIn(b"usage:", ran.stdout.lower())
