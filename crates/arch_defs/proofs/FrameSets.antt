@@ -1,5 +1,5 @@
 -- Frames that changed, and frames that are the same.
-use Rattle.std.proofs.Common.{◌≡◌, ℕ, suc, ◌+◌, ◌/◌, ◌<◌, ◌≤◌, ◌⊎◌, inl, inr, Bool, true, false, ◌||◌, ◌==◌, List, [], ◌∷◌, length, get_or, slice_index, refl, ◌∙◌, arith}
+use Rattle.std.proofs.Common.{◌≡◌, ℕ, suc, ◌+◌, ◌/◌, ◌<◌, ◌≤◌, ◌⊎◌, inl, inr, Bool, true, false, ◌||◌, ◌==◌, List, [], ◌∷◌, length, get_or, slice_index, refl, subst, ◌∙◌, arith}
 use Rattle.std.proofs.lemmas.Bool.{cases_lt, cases_Bool, or_cases, both_ways, and_parts, and_from, and_left, and_right, le-leb, lt-leb, lt-ltb, le-ltb, leb-true, ltb-true, eqb-true, eq-eqb}
 use Rattle.std.proofs.lemmas.List.Folds.{list_any_at}
 use Rattle.arch_defs.specs.Memory.{load, pasted}
@@ -124,3 +124,10 @@ pub load_kept : (named : Frames) (old new : List ℕ) (at n : ℕ) → Same name
     → ((place : ℕ) → at ≤ place → place < at + n → named (place / 4096) ≡ true) → load new at n ≡ load old at n
 load_kept named old new at n same inside =
     load_same new old at at n (λ k h. same.bytes (at + k) (inside (at + k) (omega arith) (omega arith)))
+
+-- a frame of one block alone is in it
+pub one_block : (block frame : ℕ) → in_blocks (block ∷ []) frame ≡ true → block ≡ frame / 512
+one_block block frame named = by (block_found (block ∷ []) frame named)
+  where
+    by : (i : ℕ) × (i < 1) × (slice_index (block ∷ []) i ≡ frame / 512) → block ≡ frame / 512
+    by (i, few, is) = let first : i ≡ 0 = omega (arith, few) in subst (λ k. slice_index (block ∷ []) k ≡ frame / 512) first is

@@ -7,6 +7,7 @@ pub mod Naming
 pub mod Pastes
 pub mod RamBlocks
 pub mod Rooms
+pub mod SamePages
 pub mod SameRoots
 pub mod Shapes
 pub mod SlicesOf

@@ -6,6 +6,7 @@ use Rattle.arch_defs.specs.Frames.{in_blocks, LieIn, Same}
 use Rattle.arch_defs.specs.Ram.{ram_of, host_place, SlicesLieIn, IsDistinct}
 use Rattle.arch_defs.proofs.FrameSets.{in_block_at}
 use Rattle.arch_defs.proofs.SlicesOf.{slot, length_slices, place_inside, places_apart, along, slices_alike, load_slices, pasted_slices}
+use Rattle.arch_defs.proofs.Rooms.{last_frame_of}
 
 some_bytes : 0 < block_size
 some_bytes = omega arith
@@ -17,14 +18,11 @@ frame_of_block b r h = omega arith
 last_frame : (b most : ℕ) → (b * 512 + 511) * 4096 + 4096 ≤ most → b * 2097152 + 2097152 ≤ most
 last_frame b most h = omega arith
 
-last_of_block : (b : ℕ) → b ≡ (b * 512 + 511) / 512
-last_of_block b = omega arith
-
 -- blocks whose frames lie in memory do
 pub blocks_lie_in : (blocks : List ℕ) (size : ℕ) → LieIn (in_blocks blocks) size → SlicesLieIn block_size blocks size
 blocks_lie_in blocks size lie i h =
     last_frame (slice_index blocks i) size
-    (lie (slice_index blocks i * 512 + 511) (in_block_at blocks i (slice_index blocks i * 512 + 511) h (last_of_block (slice_index blocks i))))
+    (lie (slice_index blocks i * 512 + 511) (in_block_at blocks i (slice_index blocks i * 512 + 511) h (last_frame_of (slice_index blocks i))))
 
 pub ram_length : (blocks memory : List ℕ) → SlicesLieIn block_size blocks (length memory) → length (ram_of blocks memory) ≡ length blocks * block_size
 ram_length blocks memory lie = length_slices block_size blocks memory lie

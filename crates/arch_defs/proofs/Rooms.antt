@@ -18,7 +18,7 @@ frame_ends b frame size e room = omega arith
 block_ends : (b size : ℕ) → (b * 512 + 511) * 4096 + 4096 ≤ size → (b + 1) * 2097152 ≤ size
 block_ends b size room = omega arith
 
-last_frame_of : (b : ℕ) → b ≡ (b * 512 + 511) / 512
+pub last_frame_of : (b : ℕ) → b ≡ (b * 512 + 511) / 512
 last_frame_of b = omega arith
 
 pub blocks_lie : (blocks : List ℕ) (size : ℕ) → ((i : ℕ) → i < length blocks → (slice_index blocks i + 1) * 2097152 ≤ size) → LieIn (in_blocks blocks) size

@@ -5,18 +5,12 @@ use Rattle.std.proofs.lemmas.List.{get_or-set_other, get_or-set_same}
 use Rattle.arch_defs.specs.Frames.{Apart, Within, in_blocks, joined}
 use Rattle.arch_defs.specs.Layouts.{Layout, NamesEachOnce, in_tables, named_by}
 use Rattle.arch_defs.specs.Ram.{IsDistinct}
-use Rattle.arch_defs.proofs.FrameSets.{apart_within, block_found, in_block_at, joined_within, left_within, right_within}
+use Rattle.arch_defs.proofs.FrameSets.{apart_within, block_found, in_block_at, joined_within, left_within, one_block, right_within}
 use Rattle.block_moves.specs.Moves.{with_block}
 
 -- the frames of one block
 pub of_one : (block frame : ℕ) → block ≡ frame / 512 → in_blocks (block ∷ []) frame ≡ true
 of_one block frame is = in_block_at (block ∷ []) 0 frame (omega arith) is
-
-pub one_block : (block frame : ℕ) → in_blocks (block ∷ []) frame ≡ true → block ≡ frame / 512
-one_block block frame named = by (block_found (block ∷ []) frame named)
-  where
-    by : (i : ℕ) × (i < 1) × (slice_index (block ∷ []) i ≡ frame / 512) → block ≡ frame / 512
-    by (i, few, is) = let first : i ≡ 0 = omega (arith, few) in subst (λ k. slice_index (block ∷ []) k ≡ frame / 512) first is
 
 pub one_within : (blocks : List ℕ) (i : ℕ) → i < length blocks → Within (in_blocks (slice_index blocks i ∷ [])) (in_blocks blocks)
 one_within blocks i inside frame named = in_block_at blocks i frame inside (one_block (slice_index blocks i) frame named)

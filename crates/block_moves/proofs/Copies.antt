@@ -3,13 +3,14 @@ use Rattle.std.proofs.Common.{◌≡◌, ℕ, ◌+◌, ◌-◌, ◌*◌, ◌/◌
 use Rattle.std.proofs.lemmas.List.{append_assoc, drop_at, get_or-replicate, length-take-le}
 use Rattle.arch_defs.specs.Frames.{Only, in_blocks}
 use Rattle.arch_defs.specs.Memory.{block_size, pasted, zeros}
-use Rattle.arch_defs.proofs.FrameSets.{only_pasted}
+use Rattle.arch_defs.proofs.FrameSets.{one_block, only_pasted}
 use Rattle.arch_defs.proofs.Pastes.{length_pasted, pasted_inside}
 use Rattle.phys_mem.specs.MemoryBytes.{block_of}
-use Rattle.phys_mem.proofs.PiecesLaid.{length_zeros, taken_front}
+use Rattle.phys_mem.proofs.PiecesLaid.{taken_front}
 use Rattle.shadow_space.specs.Shadows.{AreZeros}
 use Rattle.block_moves.specs.Moves.{block_cleared, block_copied}
-use Rattle.block_moves.proofs.Blocks.{of_one, one_block}
+use Rattle.block_moves.proofs.Blocks.{of_one}
+use Rattle.arch_defs.proofs.Images.{length_zeros}
 
 -- a slice of that many bytes is as long, and a piece that is laid over it is what stands there
 module _ (size n : ℕ) (bytes : List ℕ) (fits : n * size + size ≤ length bytes) where

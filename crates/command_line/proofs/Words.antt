@@ -1,5 +1,5 @@
 -- What `clap` makes of words: those of a command, and all others.
-use Rattle.std.proofs.Common.{◌&&◌, ◌⊎◌, inl, inr, ◌≡◌, ◌≢◌, ◌∙◌, ℕ, Bool, true, false, List, [], ◌∷◌, Option, Some, None, refl, ap, sym, subst, arith, codes, option_and_then, length, drop, ◌≤◌}
+use Rattle.std.proofs.Common.{◌⊎◌, inl, inr, ◌≡◌, ◌≢◌, ◌∙◌, ℕ, Bool, true, false, List, [], ◌∷◌, Option, Some, None, refl, ap, sym, subst, arith, codes, option_and_then, length, drop, ◌≤◌}
 use Rattle.std.specs.Prelude.{bytes_eq}
 use Rattle.std.specs.List.{list_all}
 use Rattle.std.proofs.lemmas.Slice.Eq.{bytes_eq-Decides}
@@ -15,6 +15,7 @@ use Rattle.clap.specs.Kinds.{IsAmong, Kinds, or_else}
 use Rattle.clap.specs.declared.error.kind.ErrorKind.TheVariants.{MissingRequiredArgument, DisplayHelp, InvalidSubcommand, OutOfMemory, UnknownArgument}
 use Rattle.command_line.specs.CommandLines.{nesthv_app, command_by}
 use Rattle.command_line.specs.Commands.{OnFiles, Run, Replay, Check, is_plain, asked_by, save_of, work_of}
+use Rattle.command_line.proofs.Numbers.{both_first, both_second}
 
 -- what a walk asks of a word that is not empty and does not begin with a dash
 record IsWord (word : List ℕ) : Type 0 where
@@ -233,15 +234,6 @@ save_long : (name config guest more : List ℕ) (rest : List Text) → IsWord co
 save_long name config guest more rest h k l e = some_kind _ _ _ (save_more config guest more rest h k l)
     (subst (λ stop. entered_fault (built nesthv_app) stop ≡ []) (save_stops (config ∷ guest ∷ more ∷ rest))
     (below_none (built nesthv_app) nothing_held (codes "save" ∷ config ∷ guest ∷ more ∷ rest) e))
-
--- all words of a list are plain
-both_first : (a b : Bool) → (a && b) ≡ true → a ≡ true
-both_first true b h = refl
-both_first false b h = cc
-
-both_second : (a b : Bool) → (a && b) ≡ true → b ≡ true
-both_second true b h = h
-both_second false b h = cc
 
 first_word : (word : List ℕ) (rest : List (List ℕ)) → list_all is_plain (word ∷ rest) ≡ true → IsWord word
 first_word word rest h = is_word word (both_first (is_plain word) (list_all is_plain rest) h)

@@ -1,18 +1,11 @@
 -- Spare blocks between the blocks of all parts and their roots.
-use Rattle.std.proofs.Common.{◌≡◌, ℕ, ◌+◌, ◌*◌, ◌/◌, ◌<◌, ◌≤◌, ◌⊎◌, inl, inr, true, false, List, [], ◌∷◌, length, get_or, slice_index, subst, arith}
+use Rattle.std.proofs.Common.{◌≡◌, ℕ, ◌+◌, ◌*◌, ◌/◌, ◌<◌, ◌≤◌, ◌⊎◌, inl, inr, true, false, List, [], ◌∷◌, length, get_or, arith}
 use Rattle.std.proofs.lemmas.Bool.{cases_Bool, or_cases}
 use Rattle.guest_specs.specs.declared.needs.Need.{Need}
 use Rattle.arch_defs.specs.Frames.{in_blocks}
 use Rattle.arch_defs.specs.Layouts.{Layout, in_tables, named_by, root_frames, table_frames}
-use Rattle.arch_defs.proofs.FrameSets.{block_found, in_range, range_parts}
+use Rattle.arch_defs.proofs.FrameSets.{block_found, in_range, one_block, range_parts}
 use Rattle.frame_split.specs.Shares.{BlocksLieBelow, IsSplit, LeavesSpare, RootsLieFrom}
-
--- the frames of one block
-one_block : (block frame : ℕ) → in_blocks (block ∷ []) frame ≡ true → block ≡ frame / 512
-one_block block frame named = by (block_found (block ∷ []) frame named)
-  where
-    by : (i : ℕ) × (i < 1) × (slice_index (block ∷ []) i ≡ frame / 512) → block ≡ frame / 512
-    by (i, few, is) = let first : i ≡ 0 = omega (arith, few) in subst (λ k. slice_index (block ∷ []) k ≡ frame / 512) first is
 
 within_spare : (first spare k frame : ℕ) → k < spare → first + k ≡ frame / 512 → (512 * first ≤ frame) × (frame < 512 * (first + spare))
 within_spare first spare k frame few is = (omega (arith, few, is), omega (arith, few, is))

@@ -5,10 +5,11 @@ use Rattle.std.proofs.lemmas.List.Elements.{All-append, All-cons}
 use Rattle.gdb_packets.specs.declared.messages.Message.TheVariants.{Packet}
 use Rattle.std.proofs.lemmas.List.{length-append, length-take, get_or-append-add, append_assoc}
 use Rattle.gdb_packets.specs.Digits.{byte_digits, digit, digit_value, hex, pair_value}
-use Rattle.gdb_packets.specs.Frames.{body_length, checksum, closing, escape, escaped, escaped_byte, framed, is_special, is_sum, message_in, opening, packet_at, packet_in, turned, unescaped}
+use Rattle.gdb_packets.specs.Frames.{body_length, checksum, closing, escape, escaped, escaped_byte, framed, is_special, is_sum, message_in, packet_at, packet_in, turned, unescaped}
 use Rattle.gdb_packets.specs.Laws.{CutIsNone, FramedIsRead, HexIsRead, IsByte}
 use Rattle.gdb_packets.proofs.Beginnings.{body_within}
 use Rattle.gdb_packets.proofs.Fronts.{plain_step, turned_step, unescaped_end, unhex_end, unhex_step}
+use Rattle.gdb_packets.proofs.Streams.{opened}
 
 -- each but the first
 rest_are : (P : ℕ → Type 0) (x : ℕ) (xs : List ℕ) → All P (x ∷ xs) → All P xs
@@ -110,14 +111,10 @@ module _ (body payload rest : List ℕ) (open_all : All IsOpen body) (back : une
   unfolding packet_in
   packet_whole = rw (length_at body (high ∷ low ∷ rest) open_all, whole, packet_is) refl
 
-pub message_opened : (rest : List ℕ) → message_in (opening ∷ rest) ≡ packet_in rest
-unfolding message_in
-message_opened rest = refl
-
 pub framed_back : FramedIsRead
 framed_back payload rest = let body = escaped payload in
     let size : length body + 4 ≡ length (framed payload) = grind (arith, length-append body (closing ∷ byte_digits (checksum body))) in
-    message_opened ((body ++ closing ∷ byte_digits (checksum body)) ++ rest)
+    opened ((body ++ closing ∷ byte_digits (checksum body)) ++ rest)
     ∙ ap (λ (bytes : List ℕ). packet_in bytes) (append_assoc body (closing ∷ byte_digits (checksum body)) rest)
     ∙ packet_whole body payload rest (escaped_open payload) (unescaped_back payload)
     ∙ ap (λ (n : ℕ). Some (record { message = Packet payload; length = n })) size
@@ -145,6 +142,6 @@ message_nothing = refl
 pub cut_none : CutIsNone
 cut_none payload zero few = message_nothing
 cut_none payload (suc k) few = let body = escaped payload in
-    message_opened (take k (body ++ closing ∷ byte_digits (checksum body)))
+    opened (take k (body ++ closing ∷ byte_digits (checksum body)))
     ∙ packet_cut body (closing ∷ byte_digits (checksum body)) k (escaped_open payload) refl
     (grind (arith, few, length-append body (closing ∷ byte_digits (checksum body))))

@@ -34,7 +34,7 @@ pub record IsWhole (bytes more : List ℕ) (received : Received) : Type 0 where
   pub within : received.length ≤ length bytes
   pub more_bytes : message_in (bytes ++ more) ≡ Some received
 
-opened : (rest : List ℕ) → message_in (opening ∷ rest) ≡ packet_in rest
+pub opened : (rest : List ℕ) → message_in (opening ∷ rest) ≡ packet_in rest
 unfolding message_in
 opened rest = refl
 

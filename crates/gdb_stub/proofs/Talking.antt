@@ -66,6 +66,7 @@ consumes_all (Some known) (Some bs) left is gone over = let same : known ≡ lef
 appends_none : {S A : Type 0} (made : S → List A → Type 0) (s : S) → Appends made s s []
 appends_none made s = λ before is. subst (λ items. made s items) (sym (append-nil before)) is
 
+-- parts of texts
 part_after : (all : Bool) (first part text : List ℕ) → IsPart all part text → IsPart all (first ++ part) (first ++ text)
 part_after true first part text is = ap (λ (rest : List ℕ). first ++ rest) is
 part_after false first part text (rest, is) = (rest, append_assoc first part rest ∙ ap (λ (rest : List ℕ). first ++ rest) is)

@@ -5,12 +5,12 @@ use Rattle.std.proofs.lemmas.List.{length-take-le, take_all, drop_all, append-ni
 use Rattle.arch_defs.specs.Memory.{block_size, loaded, pasted, zeros}
 use Rattle.arch_defs.specs.Frames.{in_blocks, LieIn, Only}
 use Rattle.arch_defs.specs.Ram.{ram_of, slices, place_in, IsDistinct, SlicesLieIn}
-use Rattle.arch_defs.proofs.Images.{length_zeros}
+use Rattle.arch_defs.proofs.Images.{length_loaded, length_zeros}
 use Rattle.arch_defs.proofs.SlicesOf.{pasted_slices}
 use Rattle.guest_loader.specs.Progress.{IsLoadedUpTo}
 use Rattle.arch_defs.proofs.FrameSets.{only_pasted, only_none, only_both, in_block_at}
 use Rattle.arch_defs.proofs.RamBlocks.{blocks_lie_in, ram_length}
-use Rattle.guest_loader.proofs.Pieces.{filled_piece, next_front, length_loaded}
+use Rattle.guest_loader.proofs.Pieces.{filled_piece, next_front}
 
 -- a slice of any size, made what it is to be
 at_slot : (size : ℕ) (ns : List ℕ) (i : ℕ) → 0 < size → place_in size ns (i * size) ≡ slice_index ns i * size

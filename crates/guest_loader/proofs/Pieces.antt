@@ -4,7 +4,7 @@ use Rattle.std.proofs.lemmas.Bool.{cases_lt}
 use Rattle.std.proofs.lemmas.Grind.{same_number_lists}
 use Rattle.std.proofs.lemmas.List.{length-take, length-take-le, length-replicate, get_or-take, get_or-drop, get_or-replicate, get_or_past, get_or_append_left, get_or-append_right, take_min, drop_min}
 use Rattle.arch_defs.specs.Memory.{pasted, zeros, loaded}
-use Rattle.arch_defs.proofs.Images.{length_zeros}
+use Rattle.arch_defs.proofs.Images.{length_loaded, length_zeros}
 use Rattle.arch_defs.proofs.Pastes.{length_pasted, pasted_before, pasted_inside, pasted_after}
 
 zero_at : (n i : ℕ) → ◌≡◌ {A = ℕ} (get_or (zeros n) i 0) 0
@@ -68,11 +68,6 @@ image_byte size image i = by (cases_lt i (length image))
     by (inr past) =
         get_or-append_right image (zeros (size - length image)) (length image) i 0 refl past
         ∙ (zero_at (size - length image) (i - length image) ∙ sym (get_or_past image i 0 past))
-
-pub length_loaded : (size : ℕ) (image : List ℕ) → length image ≤ size → length (loaded size image) ≡ size
-unfolding loaded
-length_loaded size image fits =
-    omega (arith, length-append image (zeros (size - length image)), length_zeros (size - length image), fits)
 
 -- so a piece of the image with zeros behind it is that piece of memory
 pub filled_piece : (size : ℕ) (image : List ℕ) (from n : ℕ) → length image ≤ size → from + n ≤ size

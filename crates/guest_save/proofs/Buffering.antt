@@ -9,8 +9,8 @@ use Rattle.guest_save.specs.Buffers.{Buffers, GivesAll, GivesFront}
 use Rattle.outside.specs.Texts.{PutsText}
 use Rattle.outside.proofs.Pieces.{appends_then}
 use Rattle.outside.specs.declared.sinks.Sink as sinks
-use Rattle.outside.specs.Faults.{Rose}
 use Rattle.outside.specs.Pieces.{Appends, Puts}
+use Rattle.outside.proofs.Faults.{rose_since}
 
 module _ {S : Type 0} (stands_for : S → List ℕ → Type 0) where
   -- nothing, and a piece that is kept
@@ -83,9 +83,6 @@ module _ {S : Type 0} (stands_for : S → List ℕ → Type 0) where
 
   given_front : (old new : S) (text : List ℕ) → GivesFront stands_for old [] new text → Puts stands_for old new false text
   given_front old new text stopped = (stopped.count, stopped.within, stopped.puts)
-
-rose_since : (before between after : ℕ) → before ≤ between → Rose between after → Rose before after
-rose_since before between after le rose = grind (arith, le, rose)
 
 module _ {Y A E : Type 0} (O : sinks.Ghosts Y) where
   -- nothing, and a piece that is kept

@@ -1,7 +1,7 @@
 -- A machine that can be saved goes on, and that of each guest can be saved at its start.
 use Rattle.std.specs.List.{All, list_all}
 use Rattle.std.specs.Prelude.{nat_lt}
-use Rattle.std.proofs.Common.{◌≡◌, ℕ, ◌+◌, ◌-◌, ◌*◌, ◌^◌, ◌<◌, ◌≤◌, inl, inr, Bool, true, false, List, [], ◌∷◌, ◌++◌, length, replicate, refl, ap, ◌∙◌, sym, arith, length-append}
+use Rattle.std.proofs.Common.{◌≡◌, ℕ, ◌+◌, ◌-◌, ◌*◌, ◌^◌, ◌<◌, ◌≤◌, inl, inr, Bool, true, false, List, [], ◌∷◌, ◌++◌, length, refl, ap, ◌∙◌, sym, arith}
 use Rattle.std.proofs.lemmas.Bool.{and_parts, ltb-true, true≢false}
 use Rattle.std.proofs.lemmas.List.{length-replicate}
 use Rattle.std.proofs.lemmas.List.Elements.{All-append, All-cons, All-nil, All-weaker}
@@ -13,7 +13,7 @@ use Rattle.arch_defs.specs.CsrAccess.{enable_shown, hypervisor_shown, interrupts
 use Rattle.arch_defs.specs.CsrBits.{epc_bits, hedeleg_bits, hgatp_bits, hip_bits, hstatus_bits, satp_bits, sip_bits, sstatus_bits, tvec_bits}
 use Rattle.arch_defs.specs.Bits.{bit_number}
 use Rattle.arch_defs.specs.CachedEntries.{IsReachable}
-use Rattle.arch_defs.specs.Memory.{block_size, loaded, zeros}
+use Rattle.arch_defs.specs.Memory.{block_size}
 use Rattle.arch_defs.specs.Spaces.{Space}
 use Rattle.guest_save.proofs.RoundTrip.{round_trip}
 use Rattle.guest_save.specs.declared.headers.Header.{Header}
@@ -33,6 +33,7 @@ use Rattle.machine_laws.proofs.InRam.{start_is_in_ram}
 use Rattle.machine_laws.proofs.Running.{runs_compose}
 use Rattle.machine_laws.proofs.StorableRuns.{start_is_storable}
 use Rattle.machine_laws.specs.Reservations.{HasPlace}
+use Rattle.arch_defs.proofs.Images.{length_loaded}
 
 in_place : (size : ℕ) (device : Bool) (e : Entry) → IsInReach size device e → HasPlace size e
 in_place size device e (inl ram) = inl ram
@@ -88,10 +89,6 @@ fit_by_test (n ∷ ns) is =
     let parts = and_parts (nat_lt n (2 ^ 64)) (list_all (λ n. nat_lt n (2 ^ 64)) ns) is in
     All-cons Fits n ns (ltb-true n (2 ^ 64) parts.0) (fit_by_test ns parts.1)
 
-loaded_length : (size : ℕ) (image : List ℕ) → length image ≤ size → length (loaded size image) ≡ size
-unfolding loaded zeros
-loaded_length size image fits = omega (arith, length-append image (replicate (size - length image) 0), length-replicate {A = ℕ} (size - length image) 0)
-
 sizes_fit : (guest : GuestSpec) → IsBootable guest → blocks_of (start guest) ≡ guest.blocks → All Fits (size_numbers (header_of (start guest)))
 unfolding start
 sizes_fit guest can blocks =
@@ -126,7 +123,7 @@ pub start_is_savable : StartIsSavable
 unfolding start
 start_is_savable guest can =
     let m = start guest in
-    let ram : length m.ram ≡ guest.blocks * 2097152 = loaded_length (guest.blocks * 2097152) guest.image can.image in
+    let ram : length m.ram ≡ guest.blocks * 2097152 = length_loaded (guest.blocks * 2097152) guest.image can.image in
     let blocks : blocks_of m ≡ guest.blocks = omega (arith, ram) in
     record {
       sizes = record {

@@ -27,10 +27,11 @@ use Rattle.machine_laws.specs.Renaming.{ReservesWithin}
 use Rattle.machine_laws.specs.Reservations.{HasPlace, places_from}
 use Rattle.shadow_pool.specs.declared.slots.Slot.{Slot}
 use Rattle.shadow_pool.specs.Slots.{AreSlots, AreTidy, has_key, no_space, space_at, spaces_in}
-use Rattle.shadow_pool.proofs.Listing.{entries_are, few_spaces, key_is}
+use Rattle.shadow_pool.proofs.Listing.{entries_are, key_is}
 use Rattle.shadow_space.specs.Shadows.{Tidy}
 use Rattle.guest_turns.specs.Hosting.{IsHosted}
 use Rattle.guest_turns.specs.Saving.{MayBeSaved}
+use Rattle.shadow_pool.proofs.Entering.{few_spaces}
 
 -- an entry of a table that can be filled
 in_reach : (key : GuestRoot) (size : ℕ) (device : Bool) (e : Entry) → HasPlace size e → IsOfDevice device key e → IsInReach size device e

@@ -1,17 +1,15 @@
 -- Walks under readings that agree at each multiple of 8.
-use Rattle.std.proofs.Common.{◌≡◌, ℕ, zero, suc, ◌+◌, ◌*◌, ◌%◌, Bool, true, false, [], ◌∷◌, if◌then◌else◌, refl, ap, arith}
+use Rattle.std.proofs.Common.{◌≡◌, ℕ, zero, suc, ◌%◌, Bool, true, false, [], ◌∷◌, if◌then◌else◌, refl, ap}
 use Rattle.arch_defs.specs.declared.modes.Access.{Access}
 use Rattle.arch_defs.specs.declared.walks.Next.{Next}
 use Rattle.arch_defs.specs.declared.walks.Next.TheVariants.{Ends, Below}
 use Rattle.arch_defs.specs.declared.walks.Shape.{Shape}
 use Rattle.arch_defs.specs.Walk.{EntryReading, end_of, index, is_canonical, later, levels, met_in, next_of, path, path_from, place_of, walk}
+use Rattle.arch_defs.proofs.SamePages.{eighth}
 
 -- readings that agree at each multiple of 8, where the entries are
 abbrev pub AgreeAtEntries : EntryReading → EntryReading → Type 0
 AgreeAtEntries reading other = (at : ℕ) → at % 8 ≡ 0 → other at ≡ reading at
-
-pub eighth : (table part : ℕ) → (4096 * table + 8 * part) % 8 ≡ 0
-eighth table part = omega arith
 
 -- the entries met are the same
 paths_from_alike : (reading other : EntryReading) → AgreeAtEntries reading other → (shape : Shape) (va : ℕ) (access : Access) (level table : ℕ)

@@ -1,7 +1,7 @@
 -- Every run is fresh in what it caches of the first stage.
 use Rattle.std.specs.Prelude.{Contains, get_or}
 use Rattle.std.specs.List.{All}
-use Rattle.std.proofs.Common.{◌≡◌, ℕ, zero, suc, ◌+◌, ◌<◌, ◌≤◌, ◌∙◌, ◌⊎◌, inl, inr, false, List, refl, sym, subst, ap, arith}
+use Rattle.std.proofs.Common.{◌≡◌, ℕ, zero, suc, ◌<◌, ◌≤◌, ◌∙◌, ◌⊎◌, inl, inr, false, List, refl, sym, subst, ap, arith}
 use Rattle.std.proofs.lemmas.Bool.{cases_lt}
 use Rattle.std.proofs.lemmas.List.Elements.{All-contains_itself, All-nil, All-weaker}
 use Rattle.arch_defs.specs.declared.first.FirstEntry.{FirstEntry}
@@ -15,7 +15,7 @@ use Rattle.machine_defs.specs.Tries.{found_by_try, stages_of, try}
 use Rattle.machine_laws.specs.Caching.{GuestsFirstFresh, RunsFirstFresh}
 use Rattle.machine_laws.proofs.Filling.{only_spaces}
 use Rattle.machine_laws.proofs.FirstTries.{tried_keeps_first, tried_unnamed_first}
-use Rattle.machine_laws.proofs.Running.{runs_compose}
+use Rattle.machine_laws.proofs.Running.{next_run}
 
 -- what was fresh, or was found by the next step, is fresh after it, where it does not name it as a fence
 abbrev IsHeld : Machine → ℕ → FirstEntry → Type 0
@@ -77,10 +77,6 @@ step_fresh m steps all s going = by s (found_is now s going) (λ e. named_is now
         λ i e inside. still_fresh m steps (get_or (left_after last).platform.virt.first i e) (kept i e inside) (named (get_or (left_after last).platform.virt.first i e) ∙ unnamed i e inside)
     by Waiting found named = λ i e inside. still_fresh m steps (get_or now.platform.virt.first i e) (inl (all i e inside)) (named (get_or now.platform.virt.first i e))
     by Stopped found named = λ i e inside. still_fresh m steps (get_or now.platform.virt.first i e) (inl (all i e inside)) (named (get_or now.platform.virt.first i e))
-
-next_run : (m : Machine) (steps : ℕ) → step (run m steps) ≡ run m (suc steps)
-unfolding run
-next_run m steps = let more : steps + 1 ≡ suc steps = omega arith in runs_compose m steps 1 ∙ ap (run m) more
 
 pub runs_first_fresh : RunsFirstFresh
 unfolding run step

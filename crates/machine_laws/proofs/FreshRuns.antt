@@ -1,6 +1,6 @@
 -- Every run is fresh.
 use Rattle.std.specs.List.{All}
-use Rattle.std.proofs.Common.{◌≡◌, ℕ, zero, suc, ◌+◌, ◌*◌, ◌/◌, ◌<◌, ◌≤◌, ◌∙◌, ◌⊎◌, inl, inr, false, List, [], ◌∷◌, Option, None, refl, sym, subst, ap, arith}
+use Rattle.std.proofs.Common.{◌≡◌, ℕ, zero, suc, ◌*◌, ◌/◌, ◌<◌, ◌≤◌, ◌∙◌, ◌⊎◌, inl, inr, false, List, [], ◌∷◌, Option, None, refl, sym, subst, ap, arith}
 use Rattle.std.proofs.lemmas.Bool.{cases_lt}
 use Rattle.std.proofs.lemmas.List.Elements.{All-head, All-nil}
 use Rattle.arch_defs.specs.declared.cached.Entry.{Entry}
@@ -24,8 +24,8 @@ use Rattle.machine_laws.specs.EachEntry.{EachEntry}
 use Rattle.machine_laws.proofs.EachEntry.{tried_each}
 use Rattle.machine_laws.proofs.KeyedEntries.{HoldsOfWalks, each_both, fills_each, none_named, tried_unnamed}
 use Rattle.machine_laws.proofs.Orderly.{filled_orderly, start_is_orderly, stays_orderly}
-use Rattle.machine_laws.proofs.Running.{runs_compose}
 use Rattle.machine_laws.proofs.Walks.{now_page, now_same}
+use Rattle.machine_laws.proofs.Running.{next_run}
 
 -- what is walked now is fresh
 walked_fresh : (m : Machine) (steps : ℕ) → HoldsOfWalks (IsFresh m steps) (run m steps).device (run m steps).platform.virt (run m steps).ram
@@ -82,11 +82,6 @@ step_fresh m steps is all s going = by s (fence_is (run m steps) s going)
         (tried_each (IsFresh m steps) (ready now) stages (ready_fresh m steps is all)) (tried_unnamed (ready now) stages)
     by Waiting same = later None same (run m steps).spaces all (none_named (run m steps).spaces)
     by Stopped same = later None same (run m steps).spaces all (none_named (run m steps).spaces)
-
--- so after each run
-next_run : (m : Machine) (steps : ℕ) → step (run m steps) ≡ run m (suc steps)
-unfolding run
-next_run m steps = let more : steps + 1 ≡ suc steps = omega arith in runs_compose m steps 1 ∙ ap (run m) more
 
 run_fresh : (m : Machine) → IsOrderly m → m.spaces ≡ [] → (steps : ℕ) → EachEntry (IsFresh m steps) (run m steps).spaces
 unfolding run step

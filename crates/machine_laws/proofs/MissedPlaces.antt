@@ -43,9 +43,9 @@ use Rattle.machine_defs.specs.Outcomes.{Outcome, Done, Trapped, Missed, Called, 
 use Rattle.machine_defs.specs.Privileges.{privileged}
 use Rattle.machine_laws.specs.MissedPlaces.{MissedIsTold, MissedIsWanted, MissedOffset, access_of, told_place, wanted_at, wanted_by, wanted_of}
 use Rattle.machine_laws.specs.Renaming.{KeepsPage}
-use Rattle.machine_laws.proofs.AlikeWalks.{eighth}
 use Rattle.machine_laws.proofs.Asking.{IsDecided, IsRead, called_decided, is_read, privileged_decided}
 use Rattle.machine_laws.proofs.Placed.{KeepsOffset, first_keeps, with_known_keeps}
+use Rattle.arch_defs.proofs.SamePages.{eighth}
 
 -- Q holds of the place that an access misses, if it does
 abbrev LocatedMisses : (MissingPlace → Type 0) → Located → Type 0

@@ -34,6 +34,10 @@ unfolding run
 runs_compose m zero b = ap (run m) (sym (zero-add b))
 runs_compose m (suc a) b = let e : suc a + b ≡ suc (a + b) = omega arith in rw e (runs_compose (step m) a b)
 
+pub next_run : (m : Machine) (steps : ℕ) → step (run m steps) ≡ run m (suc steps)
+unfolding run
+next_run m steps = let more : steps + 1 ≡ suc steps = omega arith in runs_compose m steps 1 ∙ ap (run m) more
+
 pub events_compose : (m : Machine) (a b : ℕ) → events m a ++ events (run m a) b ≡ events m (a + b)
 unfolding run events
 events_compose m zero b = ap (events m) (sym (zero-add b))

@@ -1,10 +1,8 @@
 -- The entry of a page, as registers and memory are: it is one and the same for each access to the page that
 -- it permits.
 use Rattle.std.specs.Prelude.{Result, Ok, Err, ◌&&◌, ◌||◌, not, nat_le, length}
-use Rattle.std.proofs.Common.{cond, ◌≡◌, ℕ, zero, suc, ◌+◌, ◌*◌, ◌/◌, ◌%◌, ◌^◌, ◌∙◌, Bool, true, false, List, [], ◌∷◌, Option, Some, None, refl, ap, sym, arith}
+use Rattle.std.proofs.Common.{cond, ◌≡◌, ℕ, zero, suc, ◌+◌, ◌*◌, ◌/◌, ◌%◌, ◌^◌, ◌∙◌, Bool, true, false, List, [], Option, Some, None, refl, ap, sym, arith}
 use Rattle.std.proofs.lemmas.Bool.{and_from, and_parts, leb-true}
-use Rattle.std.proofs.lemmas.Nat.{mod-pow-add, pow-add}
-use Rattle.std.proofs.Math.Nat.{div-div-eq-div-mul}
 use Rattle.std.proofs.Math.Pow.{mod-mod-pow}
 use Rattle.arch_defs.specs.declared.cached.Entry.{Entry}
 use Rattle.arch_defs.specs.declared.second_walks.SecondWalkEnd.{SecondWalkEnd}
@@ -31,12 +29,12 @@ use Rattle.arch_defs.specs.Roots.{guest_shape, is_table}
 use Rattle.arch_defs.specs.SecondStage.{device_under, guest_root_frame, has_frame_of, is_device_end, memory_words, place_under, second_end, second_under, second_walk}
 use Rattle.arch_defs.specs.Traps.{is_virtual}
 use Rattle.arch_defs.specs.TableEntries.{end_at_leaf, entry_next, is_aligned, is_leaf, is_marked, is_valid, leaf_pte, leaf_with, needs_dirty, pointer_next, pte_of}
-use Rattle.arch_defs.specs.Walk.{EntryReading, end_of, index, index_bits, is_canonical, later, leaf_address, levels, met_in, next_of, or_else, path, path_from, place_of, read_next, walk}
+use Rattle.arch_defs.specs.Walk.{EntryReading, end_of, is_canonical, later, leaf_address, levels, or_else, path, path_from, place_of, read_next, walk}
 use Rattle.arch_defs.specs.CachedEntries.{device_by, is_device, leaf_of, place_by}
 use Rattle.arch_defs.specs.WalkedEntries.{entry_by_end, entry_by_table, entry_by_walk, entry_under}
-use Rattle.arch_defs.proofs.Shapes.{canonical_same}
 use Rattle.machine_laws.proofs.Cached.{IsGiven, given, place_given}
 use Rattle.machine_laws.specs.Laws.{FillsAreDevices, FillsAreWalks, FillsServeTheDevice, FillsServeThePage, PageHasOneEntry}
+use Rattle.arch_defs.proofs.SamePages.{frame_same, walks_same}
 
 -- what another kind of access needs of a leaf
 abbrev Suits : Access → LeafPte → Type 0
@@ -112,46 +110,6 @@ walks_suit reading page shape va kind other leaf suits e = by (is_canonical shap
         → end_of other (cond right (path_from reading shape va other (levels shape) page) []) ≡ end_at_leaf leaf
     by true is = paths_suit reading shape va kind other leaf suits (levels shape) page is
     by false is = absurd cc
-
--- the addresses of one page have one walk
-index_same : (shape : Shape) (level a b : ℕ) → a / 4096 ≡ b / 4096 → index shape level a ≡ index shape level b
-index_same shape level a b same = ap (λ n. n % 2 ^ index_bits shape level) (split a ∙ ap (λ n. n / 2 ^ (9 * level)) same ∙ sym (split b))
-  where
-    split : (n : ℕ) → n / 2 ^ (12 + 9 * level) ≡ n / 4096 / 2 ^ (9 * level)
-    split n = rw (pow-add 2 12 (9 * level)) (sym (div-div-eq-div-mul n 4096 (2 ^ (9 * level))))
-
-paths_same : (reading : EntryReading) (shape : Shape) (kind : Access) (a b : ℕ) → a / 4096 ≡ b / 4096 → (level table : ℕ)
-    → path_from reading shape a kind level table ≡ path_from reading shape b kind level table
-unfolding path_from
-paths_same reading shape kind a b same zero table = refl
-paths_same reading shape kind a b same (suc level) table = rw (index_same shape level a b same)
-    (ap (λ ms. met_in reading shape b level table ∷ ms) (by (next_of kind (met_in reading shape b level table)) (λ t. paths_same reading shape kind a b same level t)))
-  where
-    by : (next : Next) → ((t : ℕ) → path_from reading shape a kind level t ≡ path_from reading shape b kind level t)
-        → later (path_from reading shape a kind level) next ≡ later (path_from reading shape b kind level) next
-    by (Ends end) deeper = refl
-    by (Below t) deeper = deeper t
-
-walks_same : (reading : EntryReading) (shape : Shape) (ppn : ℕ) (kind : Access) (a b : ℕ) → a / 4096 ≡ b / 4096 → walk reading ppn shape a kind ≡ walk reading ppn shape b kind
-unfolding walk path
-walks_same reading shape ppn kind a b same = rw (canonical_same shape a b same) (by (is_canonical shape b))
-  where
-    by : (right : Bool) → end_of kind (cond right (path_from reading shape a kind (levels shape) ppn) []) ≡ end_of kind (cond right (path_from reading shape b kind (levels shape) ppn) [])
-    by true = ap (end_of kind) (paths_same reading shape kind a b same (levels shape) ppn)
-    by false = refl
-
--- one frame under a leaf
-frame_same : (leaf : LeafPte) (a b : ℕ) → a / 4096 ≡ b / 4096 → leaf_address leaf a / 4096 ≡ leaf_address leaf b / 4096
-frame_same leaf a b same = split a ∙ ap (λ n. leaf.frame + n % 2 ^ (9 * leaf.level)) same ∙ sym (split b)
-  where
-    quotient : (f p r n : ℕ) → n ≡ p * 4096 + r % 4096 → (4096 * f + n) / 4096 ≡ f + p
-    quotient f p r n is = omega arith
-
-    turned : 12 + 9 * leaf.level ≡ 9 * leaf.level + 12
-    turned = omega arith
-
-    split : (n : ℕ) → leaf_address leaf n / 4096 ≡ leaf.frame + n / 4096 % 2 ^ (9 * leaf.level)
-    split n = rw turned (quotient leaf.frame (n / 4096 % 2 ^ (9 * leaf.level)) n (n % 2 ^ (9 * leaf.level + 12)) (mod-pow-add n (9 * leaf.level) 12))
 
 entry_same : (leaf : LeafPte) (a b : ℕ) → a / 4096 ≡ b / 4096 → entry_under leaf a ≡ entry_under leaf b
 entry_same leaf a b same = rw (same, frame_same leaf a b same) refl

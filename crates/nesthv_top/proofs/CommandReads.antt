@@ -35,7 +35,8 @@ use Rattle.nesthv_top.specs.Reads.{accepted_steps, ask, config_steps, fault_by, 
 use Rattle.nesthv_top.specs.Seen.{plan_seen, IsJob}
 use Rattle.nesthv_top.specs.Steps.{Step, asks_unless, fault_in, made_of, AreAnswered, ArePassed, AskedMore, IsNumberAfter, ReadStopsAs, StopAs}
 use Rattle.nesthv_top.proofs.GuestReads.{all_bootable, made_names, made_of_files}
-use Rattle.nesthv_top.proofs.StepLists.{answered_none, answered_then, asked_none, asked_then, made_all, making_passed, one_passed, one_stopped, passed_then, rose_since, stop_answers_then, stopped_first, stopped_later, test_passed, test_refused}
+use Rattle.nesthv_top.proofs.StepLists.{answered_none, answered_then, asked_none, asked_then, made_all, making_passed, one_passed, one_stopped, passed_then, stop_answers_then, stopped_first, stopped_later, test_passed, test_refused}
+use Rattle.outside.proofs.Faults.{rose_since}
 
 -- what reads leave of a store, one after the other
 pub left_none : {X A : Type 0} (S : stores.Ghosts X) (a : A) (store : X) (made : ℕ) → Leaves S 0 (Ok a) store store made made

@@ -3,7 +3,6 @@ use Rattle.std.proofs.Common.{◌≡◌, ◌∙◌, ℕ, ◌+◌, ◌≤◌, Lis
 use Rattle.std.proofs.lemmas.List.{append-nil}
 use Rattle.std.proofs.lemmas.List.Elements.{All-append, All-nil}
 use Rattle.outside.specs.Asks.{Ask}
-use Rattle.outside.specs.Faults.{Rose}
 use Rattle.run_config.specs.declared.faults.ConfigFault.{ConfigFault}
 use Rattle.run_config.specs.Tests.{first_fault}
 use Rattle.nesthv_top.specs.declared.ends.LoadEnd.{LoadEnd}
@@ -250,7 +249,3 @@ making_short fault made before = record {
   number = omega arith;
   left = λ some. inr refl;
 }
-
--- a count of faults that rose in the second step rose
-pub rose_since : (before between after : ℕ) → before ≤ between → Rose between after → Rose before after
-rose_since before between after le rose = grind (arith, le, rose)

@@ -9,7 +9,8 @@ use Rattle.std.proofs.lemmas.List.Folds.{concat-append}
 use Rattle.std.proofs.lemmas.Nat.{div-add-mod', div-mul-add, div_below}
 use Rattle.arch_defs.specs.Memory.{pasted, zeros}
 use Rattle.phys_mem.specs.MemoryBytes.{AreWhole}
-use Rattle.phys_mem.proofs.PiecesLaid.{length_zeros, pasted_over, taken_front}
+use Rattle.phys_mem.proofs.PiecesLaid.{pasted_over, taken_front}
+use Rattle.arch_defs.proofs.Images.{length_zeros}
 
 -- three lists: what lies before a frame, the frame, what lies after it
 taken_between : (before frame after : List ℕ) (p k : ℕ) → length before ≡ p → k ≤ length frame

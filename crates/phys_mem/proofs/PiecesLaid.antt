@@ -4,10 +4,6 @@ use Rattle.std.proofs.Math.Seq.{drop-append-add, take-append_seam}
 use Rattle.std.proofs.lemmas.List.{append_assoc, length-take-le, drop_all, drop-drop, append-nil, replicate-append-replicate, take-append-drop, length-replicate}
 use Rattle.arch_defs.specs.Memory.{pasted, zeros}
 
-pub length_zeros : (n : ℕ) → length (zeros n) ≡ n
-unfolding zeros
-length_zeros n = length-replicate n 0
-
 -- a piece as long as the bytes takes their place
 pub pasted_over : (bytes piece : List ℕ) → length piece ≡ length bytes → pasted bytes 0 piece ≡ piece
 pasted_over bytes piece e =

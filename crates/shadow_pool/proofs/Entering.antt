@@ -53,7 +53,7 @@ one_found key (slot ∷ slots) (suc i) d inside has order =
     differs (inr is) = is
 
 -- there are no more spaces than tables
-few_spaces : (slots : List Slot) → length (spaces_in slots) ≤ length slots
+pub few_spaces : (slots : List Slot) → length (spaces_in slots) ≤ length slots
 few_spaces [] = omega arith
 few_spaces (slot ∷ slots) = by slot.key (few_spaces slots)
   where

@@ -11,17 +11,8 @@ use Rattle.arch_defs.specs.CachedEntries.{device_by, device_by_entries, entry_at
 use Rattle.arch_defs.specs.Spaces.{Space, front}
 use Rattle.shadow_pool.specs.declared.slots.Slot.{Slot}
 use Rattle.shadow_pool.specs.Slots.{ComesBefore, is_spare, space_at, space_if, space_of, spaces_in}
-use Rattle.shadow_pool.proofs.Entering.{all_spare}
+use Rattle.shadow_pool.proofs.Entering.{all_spare, few_spaces}
 use Rattle.shadow_pool.proofs.Ordering.{pairs_first, pairs_rest}
-
--- there are no more spaces than tables
-at_most_more : (o : Option GuestRoot) (es : List Entry) (n : ℕ) (rest : List Space) → length rest ≤ n → length (cons_option (space_if o es) rest) ≤ suc n
-at_most_more None es n rest few = omega (arith, few)
-at_most_more (Some key) es n rest few = omega (arith, few)
-
-pub few_spaces : (slots : List Slot) → length (spaces_in slots) ≤ length slots
-few_spaces [] = omega arith
-few_spaces (slot ∷ slots) = at_most_more slot.key slot.space.entries (length slots) (spaces_in slots) (few_spaces slots)
 
 -- the table of a space's number has it
 first_has : (o : Option GuestRoot) (es : List Entry) (rest : List Space) → (o ≡ None → rest ≡ []) → 0 < length (cons_option (space_if o es) rest)

@@ -96,7 +96,7 @@ fn is_spare(slot: &Slot) -> bool
 }
 
 /// The value of hgatp that space i is for.
-#[tactic(auto, using(crate::proofs::Listing::few_spaces, crate::proofs::Listing::key_is))]
+#[tactic(auto, using(crate::proofs::Entering::few_spaces, crate::proofs::Listing::key_is))]
 pub fn key_at(slots: &[Slot], i: usize) -> Key
     requires order { AllPairs ComesBefore slots.now }
     requires space { i < length (spaces_in slots.now) }
@@ -110,7 +110,7 @@ pub fn key_at(slots: &[Slot], i: usize) -> Key
 }
 
 /// The entries of space i, the oldest first.
-#[tactic(auto, using(crate::proofs::Listing::few_spaces, crate::proofs::Listing::entries_are))]
+#[tactic(auto, using(crate::proofs::Entering::few_spaces, crate::proofs::Listing::entries_are))]
 pub fn entries_at(slots: &[Slot], i: usize) -> &[Entry]
     requires order { AllPairs ComesBefore slots.now }
     requires space { i < length (spaces_in slots.now) }

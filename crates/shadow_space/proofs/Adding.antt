@@ -3,7 +3,8 @@ use Rattle.std.proofs.Common.{◌≡◌, ◌≢◌, ℕ, zero, suc, ◌+◌, ◌
 use Rattle.shadow_space.specs.declared.writing.Tables.{Tables}
 use Rattle.shadow_space.specs.Trees.{Content, Free, Table, IsOwn, IsTree, Says, Tree, entry_of, pointer_of, slots, top}
 use Rattle.table_words.specs.Entries.{pointer_word}
-use Rattle.shadow_space.proofs.Slots.{other_slots, same_or, same_place}
+use Rattle.shadow_space.proofs.Slots.{other_slots, same_place}
+use Rattle.table_words.proofs.Words.{same_or}
 
 pub same_pair : (h k h' k' : ℕ) → ((h' ≡ h) × (k' ≡ k)) ⊎ ((h' ≡ h) × (k' ≡ k) → ⊥)
 same_pair h k h' k' = by (same_or h' h) (same_or k' k)

@@ -1,5 +1,5 @@
 -- Memory of zeros.
-use Rattle.std.proofs.Common.{◌≡◌, ℕ, ◌<◌, ◌≤◌, ◌⊎◌, inl, inr, length, get_or, replicate, arith}
+use Rattle.std.proofs.Common.{◌≡◌, ℕ, ◌<◌, ◌≤◌, ◌⊎◌, inl, inr, get_or, replicate, arith}
 use Rattle.std.proofs.lemmas.Bool.{cases_lt}
 use Rattle.std.proofs.lemmas.List.{get_or-replicate, get_or_past, length-replicate}
 use Rattle.arch_defs.specs.Memory.{zeros}
@@ -11,7 +11,3 @@ zeros_at n i = by (cases_lt i n)
     by : (i < n) ⊎ (n ≤ i) → get_or {A = ℕ} (replicate n 0) i 0 ≡ 0
     by (inl before) = get_or-replicate n i 0 0 before
     by (inr past) = get_or_past (replicate n 0) i 0 (omega (arith, length-replicate {A = ℕ} n 0, past))
-
-pub zeros_length : (n : ℕ) → length (zeros n) ≡ n
-unfolding zeros
-zeros_length n = length-replicate {A = ℕ} n 0

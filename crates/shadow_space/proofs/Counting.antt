@@ -8,7 +8,7 @@ use Rattle.shadow_space.specs.declared.frames.TableFrames.{TableFrames}
 use Rattle.shadow_space.specs.Held.{IsKept, closed, fewer, more, next_free, opened}
 use Rattle.shadow_space.specs.Trees.{most_tables}
 use Rattle.guest_specs.specs.Limits.{most_entries}
-use Rattle.shadow_space.proofs.Slots.{same_or}
+use Rattle.table_words.proofs.Words.{same_or}
 
 used_zero : (n : ℕ) → n ≡ 0 → ◌≡◌ {A = ℕ} (cond (not (n == 0)) 1 0) 0
 used_zero n is = rw (eq-eqb n 0 is) refl

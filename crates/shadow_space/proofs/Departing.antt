@@ -13,9 +13,9 @@ use Rattle.shadow_space.proofs.Adding.{IsAdded, same_pair}
 use Rattle.shadow_space.proofs.Counting.{counted_inside, kept_closed, kept_fewer}
 use Rattle.shadow_space.proofs.Placing.{place_removed, removed_free, removed_none, without_place}
 use Rattle.shadow_space.proofs.Removing.{removed_says, removed_sound}
-use Rattle.shadow_space.proofs.Slots.{own_frame, own_room, same_or}
+use Rattle.shadow_space.proofs.Slots.{own_frame, own_room}
 use Rattle.table_words.specs.Words.{doubleword_at, with_word}
-use Rattle.table_words.proofs.Words.{only_word, word_here, word_there}
+use Rattle.table_words.proofs.Words.{only_word, same_or, word_here, word_there}
 use Rattle.shadow_space.proofs.Stepping.{IsMore, low_range, other_frame, recounted}
 
 -- what is left when an entry is gone

@@ -3,7 +3,8 @@ use Rattle.std.proofs.Common.{◌≡◌, ◌≢◌, ℕ, zero, suc, ◌+◌, ◌
 use Rattle.shadow_space.specs.declared.writing.Tables.{Tables}
 use Rattle.shadow_space.specs.Trees.{Content, Free, Table, IsOwn, IsTree, Says, Tree, entry_of, slots, top}
 use Rattle.shadow_space.proofs.Adding.{low_slots}
-use Rattle.shadow_space.proofs.Slots.{same_or, same_place, whole}
+use Rattle.shadow_space.proofs.Slots.{same_place, whole}
+use Rattle.table_words.proofs.Words.{same_or}
 
 parts : (k u page : ℕ) → u < 512 → 512 * k + u ≡ page → (k ≡ page / 512) × (u ≡ page % 512)
 parts k u page small is = (omega arith, omega arith)

@@ -7,7 +7,7 @@ use Rattle.shadow_space.specs.Held.{number_of}
 use Rattle.shadow_space.specs.Leaves.{leaves}
 use Rattle.shadow_space.specs.Trees.{prefix}
 use Rattle.shadow_space.proofs.Finding.{no_leaf}
-use Rattle.shadow_space.proofs.Slots.{same_or}
+use Rattle.table_words.proofs.Words.{same_or}
 
 one_if : (a b : ℕ) → a ≡ b → ◌≡◌ {A = ℕ} (cond (a == b) 1 0) 1
 one_if a b is = rw (eq-eqb a b is) refl

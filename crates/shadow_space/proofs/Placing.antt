@@ -3,7 +3,7 @@ use Rattle.std.proofs.Common.{◌≡◌, ◌≢◌, ℕ, ◌⊎◌, inl, inr, fa
 use Rattle.std.proofs.lemmas.Bool.{and_from, and_left, and_right, eq-eqb, ne_eqb}
 use Rattle.shadow_space.specs.Trees.{Free, Table, Tree}
 use Rattle.shadow_space.proofs.Adding.{IsAdded}
-use Rattle.shadow_space.proofs.Slots.{same_or}
+use Rattle.table_words.proofs.Words.{same_or}
 
 abbrev pub with_place : Tree → ℕ → ℕ → ℕ → Tree
 with_place tree frame h k = record {

@@ -4,7 +4,8 @@ use Rattle.std.proofs.lemmas.Bool.{eq-eqb, ne_eqb}
 use Rattle.arch_defs.specs.CachedEntries.{guest_page_bits}
 use Rattle.shadow_space.specs.Trees.{prefix, top}
 use Rattle.shadow_space.specs.Ways.{slot_of, table_prefix}
-use Rattle.shadow_space.proofs.Slots.{same_or, whole}
+use Rattle.shadow_space.proofs.Slots.{whole}
+use Rattle.table_words.proofs.Words.{same_or}
 
 -- a table below the root has the page's prefix
 pub low_prefix : (h page : ℕ) → h < top → table_prefix h page ≡ prefix h page

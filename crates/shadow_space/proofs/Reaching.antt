@@ -13,13 +13,14 @@ use Rattle.shadow_space.proofs.Adding.{low_slots}
 use Rattle.shadow_space.proofs.Numbers.{no_number_of, none_if, number_cons}
 use Rattle.shadow_space.proofs.Prefixes.{few_prefixes}
 use Rattle.shadow_space.proofs.Ways.{tree_own}
-use Rattle.shadow_space.proofs.Slots.{other_slots, other_than_root, root_slots, same_or, whole}
+use Rattle.shadow_space.proofs.Slots.{other_slots, other_than_root, root_slots, whole}
 use Rattle.shadow_space.proofs.Tidying.{tidy_parts, folded, tidy_kept}
 use Rattle.table_words.proofs.Pointers.{pointer_some}
 use Rattle.shadow_space.specs.declared.cached.CachedTable.{CachedTable}
 use Rattle.shadow_space.specs.declared.writing.Tables.{Tables}
 use Rattle.shadow_space.specs.Folding.{Folded}
 use Rattle.table_words.specs.Words.{doubleword_at}
+use Rattle.table_words.proofs.Words.{same_or}
 
 -- the root has an entry for each table of the level below it
 few_tables : (blocks : List ℕ) (es : List Entry) (h k : ℕ) → suc h ≡ top → All (CanFill blocks) es → 0 < number_of es h k → k < 2048

@@ -21,10 +21,10 @@ use Rattle.shadow_space.proofs.Adding.{low_slots}
 use Rattle.shadow_space.proofs.Finding.{found_has}
 use Rattle.shadow_space.proofs.Leafing.{leaf_says}
 use Rattle.shadow_space.proofs.Reaching.{unreached}
-use Rattle.shadow_space.proofs.Slots.{own_frame, own_room, same_or}
+use Rattle.shadow_space.proofs.Slots.{own_frame, own_room}
 use Rattle.shadow_space.proofs.Tidying.{folded, own_small, tidy_from}
 use Rattle.table_words.specs.Words.{doubleword_at, with_word}
-use Rattle.table_words.proofs.Words.{only_word, word_here, word_there}
+use Rattle.table_words.proofs.Words.{only_word, same_or, word_here, word_there}
 
 -- the leaves of the first i entries are written for these blocks; a page without an entry has none
 pub record IsRefolding (tables : Tables) (blocks : List ℕ) (entries : List Entry) (frames : TableFrames) (old : List ℕ) (i : ℕ) (memory : List ℕ) : Type 0 where

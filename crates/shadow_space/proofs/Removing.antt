@@ -3,7 +3,8 @@ use Rattle.std.proofs.Common.{◌≡◌, ◌≢◌, ℕ, zero, suc, ◌+◌, ◌
 use Rattle.shadow_space.specs.declared.writing.Tables.{Tables}
 use Rattle.shadow_space.specs.Trees.{Free, Table, IsOwn, IsTree, Says, Tree, entry_of, pointer_of, slots, top}
 use Rattle.shadow_space.proofs.Adding.{IsAdded, low_slots, others_say, same_pair}
-use Rattle.shadow_space.proofs.Slots.{same_or, same_place}
+use Rattle.shadow_space.proofs.Slots.{same_place}
+use Rattle.table_words.proofs.Words.{same_or}
 
 -- the first tree is the second with a table in a frame
 module _ (tables : Tables) (tree tree' : Tree) (f h k : ℕ) (sound : IsTree tables tree) (removed : IsAdded tree' tree f h k) (free : tree'.content f ≡ Free) (none : tree'.place h k ≡ None) where

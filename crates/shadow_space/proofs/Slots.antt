@@ -5,9 +5,7 @@ use Rattle.arch_defs.specs.Frames.{LieIn, within}
 use Rattle.arch_defs.proofs.FrameSets.{in_range, left_within, right_within}
 use Rattle.shadow_space.specs.declared.writing.Tables.{Tables}
 use Rattle.shadow_space.specs.Trees.{IsOwn, RootIsApart, frames_of, slots}
-
-pub same_or : (a b : ℕ) → (a ≡ b) ⊎ (a ≢ b)
-same_or a b = grind arith
+use Rattle.table_words.proofs.Words.{same_or}
 
 pub root_slots : (tables : Tables) (f : ℕ) → f ≡ tables.root → slots tables f ≡ 2048
 root_slots tables f is = rw (eq-eqb f tables.root is) refl

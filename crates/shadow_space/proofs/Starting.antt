@@ -11,9 +11,9 @@ use Rattle.shadow_space.specs.Shadows.{AreZeros}
 use Rattle.shadow_space.specs.Trees.{Free, IsOwn, IsTree, RootIsApart, Says, Table, Tree, entry_of, frames_of, pointer_of, slots, top}
 use Rattle.shadow_space.proofs.Finding.{no_leaf}
 use Rattle.shadow_space.proofs.Numbers.{no_number_of}
-use Rattle.shadow_space.proofs.Slots.{other_than_root, own_frame, same_or}
+use Rattle.shadow_space.proofs.Slots.{other_than_root, own_frame}
 use Rattle.table_words.specs.Words.{doubleword_at}
-use Rattle.table_words.proofs.Words.{same_frame}
+use Rattle.table_words.proofs.Words.{same_frame, same_or}
 
 -- the root alone
 abbrev pub root_alone : Tables → Tree

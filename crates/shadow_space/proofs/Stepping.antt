@@ -12,11 +12,11 @@ use Rattle.shadow_space.specs.Trees.{Free, HasTables, IsOwn, IsTree, Table, Tree
 use Rattle.shadow_space.proofs.Adding.{IsAdded, added_says, added_sound, same_pair}
 use Rattle.shadow_space.proofs.Counting.{counted_few, counted_inside, has_free, kept_more, kept_opened, left_few}
 use Rattle.shadow_space.proofs.Placing.{place_added, with_place}
-use Rattle.shadow_space.proofs.Slots.{own_frame, own_room, same_or}
+use Rattle.shadow_space.proofs.Slots.{own_frame, own_room}
 use Rattle.table_words.specs.Entries.{named_frame, pointer_word}
 use Rattle.table_words.proofs.Pointers.{pointer_names, pointer_small, pointer_some}
 use Rattle.table_words.specs.Words.{doubleword_at, with_word}
-use Rattle.table_words.proofs.Words.{only_word, word_here, word_there}
+use Rattle.table_words.proofs.Words.{only_word, same_or, word_here, word_there}
 
 -- the second numbers are the first with one more in one table
 pub record IsMore (number number' : ℕ → ℕ → ℕ) (h k : ℕ) : Type 0 where

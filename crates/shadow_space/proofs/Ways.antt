@@ -13,8 +13,9 @@ use Rattle.shadow_space.specs.Ways.{number_with, slot_of, table_prefix}
 use Rattle.shadow_space.proofs.Adding.{low_slots}
 use Rattle.shadow_space.proofs.Prefixes.{root_prefix, slot_low, slot_small}
 use Rattle.shadow_space.proofs.Numbers.{no_leaves, number_up, own_number}
-use Rattle.shadow_space.proofs.Slots.{root_slots, same_or}
+use Rattle.shadow_space.proofs.Slots.{root_slots}
 use Rattle.shadow_space.proofs.Stepping.{IsMore}
+use Rattle.table_words.proofs.Words.{same_or}
 
 -- a table of the page has one entry more from the level on, and no other table has
 module _ (es : List Entry) (page : ℕ) where

@@ -14,6 +14,7 @@ use Rattle.arch_defs.specs.Walk.{EntryReading, levels, is_canonical, place_of, i
 use Rattle.stage_walk.specs.ByLevels.{walk_from}
 use Rattle.stage_walk.specs.Laws.{SameOn, PathsAlike, WalksAlike, GoesToNext, IsLinked, PathIsLinked, LinkedIsPath, EndsByLevels, LiesInTable, AllAligned, PlacesAligned}
 use Rattle.stage_walk.proofs.Levels.{walk_starts, walk_refused}
+use Rattle.arch_defs.proofs.SamePages.{eighth}
 
 -- readings that agree on the entries met from a table on meet the same
 alike_from : (reading other : EntryReading) (shape : Shape) (va : ℕ) (access : Access) (level table : ℕ)
@@ -147,10 +148,6 @@ within start part size some = grind arith
 pub lies_in_table : LiesInTable
 lies_in_table shape level table va =
     (omega arith, within (4096 * table) (va / 2 ^ (12 + 9 * level)) (2 ^ index_bits shape level) (pow_pos (index_bits shape level)))
-
--- and its place is a multiple of 8
-eighth : (table part : ℕ) → (4096 * table + 8 * part) % 8 ≡ 0
-eighth table part = omega arith
 
 aligned_from : (reading : EntryReading) (shape : Shape) (va : ℕ) (access : Access) (level table : ℕ) → AllAligned (path_from reading shape va access level table)
 unfolding path_from

@@ -37,7 +37,7 @@ word_kept frames old new i same named =
     load_kept frames old new (8 * i) 8 same (λ at from to. subst (λ f. frames f ≡ true) (same_frame i at from to) named)
 
 -- how many doublewords differ
-same_or : (a b : ℕ) → (a ≡ b) ⊎ (a ≢ b)
+pub same_or : (a b : ℕ) → (a ≡ b) ⊎ (a ≢ b)
 same_or a b = grind arith
 
 unfoldable differs : ℕ → ℕ → ℕ

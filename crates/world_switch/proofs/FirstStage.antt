@@ -1,5 +1,5 @@
 -- First-stage translations of the hart that stands for a guest: it knows the same, and finds the same.
-use Rattle.std.specs.Prelude.{◌==◌, ◌||◌, option_map}
+use Rattle.std.specs.Prelude.{◌==◌, option_map}
 use Rattle.std.proofs.Common.{cond, ◌≡◌, ℕ, ◌%◌, ◌∙◌, Bool, true, false, [], ◌++◌, Option, Some, None, refl, ap}
 use Rattle.arch_defs.specs.declared.first.FirstEntry.{FirstEntry}
 use Rattle.arch_defs.specs.declared.first.Tag.{Tag}
@@ -30,13 +30,9 @@ use Rattle.machine_defs.specs.Core.{At, Fails, Failure, Faults, Located, accesse
 use Rattle.machine_defs.specs.FirstLeaves.{entry_walked, found_at, found_by_effect, found_by_op, found_for, leaf_under, leaves_found, unless_known}
 use Rattle.world_switch.specs.Hosting.{hart_state_of, hosted_csrs, hosted_mode}
 use Rattle.world_switch.specs.Laws.{FindsAlike, KnowsAlike}
-use Rattle.world_switch.proofs.Undone.{translates_alike}
+use Rattle.world_switch.proofs.Undone.{or_false, translates_alike}
 
 -- the hart accesses as whom the guest does, by the same satp or vsatp
-or_false : (b : Bool) → (b || false) ≡ b
-or_false true = refl
-or_false false = refl
-
 same_privilege : (root : GuestRoot) (csrs : Csrs) (mode : Mode) → privilege_of (hosted_csrs root (is_virtual mode) csrs) (hosted_mode mode) ≡ privilege_of csrs mode
 same_privilege root csrs HS = ap (λ mxr. record { user = false; sum = csrs.hs.status.sum; mxr = mxr }) (or_false csrs.hs.status.mxr)
 same_privilege root csrs U = ap (λ mxr. record { user = true; sum = csrs.hs.status.sum; mxr = mxr }) (or_false csrs.hs.status.mxr)

@@ -139,7 +139,7 @@ load_after_save = λ root v hart same on.
     rw (loaded_again root (is_virtual v.mode) _ v.csrs hart.csrs v_is same, hosted_again (is_virtual v.mode) hart.mode on) refl
 
 -- with V = 0 the hart has no sstatus.MXR of its own
-or_false : (b : Bool) → (b || false) ≡ b
+pub or_false : (b : Bool) → (b || false) ≡ b
 or_false true = refl
 or_false false = refl
 

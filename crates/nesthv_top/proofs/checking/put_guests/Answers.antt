@@ -1,8 +1,8 @@
 use Rattle.std.proofs.Common.{◌∙◌, false, refl, subst, arith, rules, ◌≡◌, Err}
 use Rattle.outside.specs.Pieces.{Appends, Puts}
-use Rattle.nesthv_top.proofs.StepLists.{rose_since}
 use Rattle.nesthv_top.proofs.CheckLines.{put_further, put_none, stopped_at}
 use Rattle.nesthv_top.proofs.checking.put_guests.Goals as goal
+use Rattle.outside.proofs.Faults.{rose_since}
 
 pub loop-guest-init : goal.loop-guest-init
 loop-guest-init g c = record { put = put_none g.O.Sink.stands_for c.args.out.now; count = omega arith; stays = refl }

@@ -1,9 +1,9 @@
 use Rattle.std.proofs.Common.{◌≡◌, ◌<◌, ◌∙◌, length, get_or, rules, sym, arith, Err}
 use Rattle.machine_defs.specs.Report.{section_of}
 use Rattle.nesthv_top.specs.Seen.{names_in}
-use Rattle.nesthv_top.proofs.StepLists.{rose_since}
 use Rattle.nesthv_top.proofs.Sectioning.{name_is, names_count, put_further, put_none, stopped_at}
 use Rattle.nesthv_top.proofs.running.put_sections.Goals as goal
+use Rattle.outside.proofs.Faults.{rose_since}
 
 pub loop-i-init : goal.loop-i-init
 loop-i-init g c = record {

@@ -3,10 +3,10 @@ use Rattle.outside.specs.Pieces.{Appends, Puts}
 use Rattle.work_images.specs.Guests.{guest_name}
 use Rattle.nesthv_top.specs.Runnings.{work_names}
 use Rattle.nesthv_top.specs.Works.{line_of}
-use Rattle.nesthv_top.proofs.StepLists.{rose_since}
 use Rattle.nesthv_top.proofs.Sectioning.{put_further, put_none, stopped_at}
 use Rattle.nesthv_top.proofs.Working.{name_at}
 use Rattle.nesthv_top.proofs.works.put_lines.Goals as goal
+use Rattle.outside.proofs.Faults.{rose_since}
 
 pub loop-i-init : goal.loop-i-init
 loop-i-init g c = record { put = put_none g.O.Sink.stands_for c.args.out.now line_of work_names c.args.host.now.machines; count = omega arith; stays = refl }

@@ -6,17 +6,17 @@ use Rattle.arch_defs.specs.Memory.{zeros}
 use Rattle.arch_defs.proofs.FrameSets.{same_none}
 use Rattle.arch_defs.proofs.Rooms.{joined_lie, range_lies}
 use Rattle.shadow_space.specs.Shadows.{AreZeros}
-use Rattle.shadow_space.proofs.Clearing.{zeros_length}
 use Rattle.shadow_space.proofs.Partings.{untouched}
 use Rattle.shadow_pool.specs.Slots.{Pooled, TidyPool, pool_frames, table_frames_for}
 use Rattle.tests_memory.proofs.pools.empty_pool.Goals as goal
+use Rattle.arch_defs.proofs.Images.{length_zeros}
 
 lies : (part : Layout) (frames : ℕ) → part.first_root + 4 * (1 + part.spaces) ≤ frames → part.first_table + 1 + part.spaces * tables_for part.entries ≤ frames
     → LieIn (table_frames_for part part.spaces) (length (zeros (frames * 4096)))
 lies part frames roots tables =
     joined_lie (within (part.first_root + 4) (4 * part.spaces)) (within (part.first_table + 1) (part.spaces * tables_for part.entries)) (length (zeros (frames * 4096)))
-    (range_lies (part.first_root + 4) (4 * part.spaces) (length (zeros (frames * 4096))) (omega (arith, zeros_length (frames * 4096), roots)))
-    (range_lies (part.first_table + 1) (part.spaces * tables_for part.entries) (length (zeros (frames * 4096))) (omega (arith, zeros_length (frames * 4096), tables)))
+    (range_lies (part.first_root + 4) (4 * part.spaces) (length (zeros (frames * 4096))) (omega (arith, length_zeros (frames * 4096), roots)))
+    (range_lies (part.first_table + 1) (part.spaces * tables_for part.entries) (length (zeros (frames * 4096))) (omega (arith, length_zeros (frames * 4096), tables)))
 
 new_tidy : (part : Layout) (pool : Pooled) (frames : ℕ) (memory : List ℕ) → memory ≡ zeros (frames * 4096) → part.first_root + 4 * (1 + part.spaces) ≤ frames
     → part.first_table + 1 + part.spaces * tables_for part.entries ≤ frames → pool.part ≡ part → length pool.slots ≡ part.spaces

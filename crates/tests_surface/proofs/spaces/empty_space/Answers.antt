@@ -6,18 +6,18 @@ use Rattle.arch_defs.specs.Memory.{zeros}
 use Rattle.arch_defs.proofs.FrameSets.{same_none}
 use Rattle.arch_defs.proofs.Rooms.{joined_lie, range_lies}
 use Rattle.shadow_space.specs.Shadows.{AreZeros}
-use Rattle.shadow_space.proofs.Clearing.{zeros_length}
 use Rattle.shadow_space.proofs.Partings.{untouched}
 use Rattle.shadow_space.proofs.Tidying.{tables_end}
 use Rattle.tests_surface.proofs.spaces.empty_space.Goals as goal
+use Rattle.arch_defs.proofs.Images.{length_zeros}
 
 lies : (part : Layout) (frames : ℕ) (memory : List ℕ) → memory ≡ zeros (frames * 4096) → part.first_root + 4 * (1 + part.spaces) ≤ frames
     → part.first_table + 1 + part.spaces * tables_for part.entries ≤ frames → 0 < part.spaces → LieIn (space_frames part 0) (length memory)
 lies part frames memory is roots tables own =
     subst (λ m. LieIn (space_frames part 0) (length m)) (sym is)
     (joined_lie (within (part.first_root + 4 * (1 + 0)) 4) (within (part.first_table + 1 + 0 * tables_for part.entries) (tables_for part.entries)) (length (zeros (frames * 4096)))
-    (range_lies (part.first_root + 4 * (1 + 0)) 4 (length (zeros (frames * 4096))) (omega (arith, zeros_length (frames * 4096), roots, own)))
-    (range_lies (part.first_table + 1 + 0 * tables_for part.entries) (tables_for part.entries) (length (zeros (frames * 4096))) (omega (arith, zeros_length (frames * 4096), tables, tables_end 0 part.spaces (tables_for part.entries) own))))
+    (range_lies (part.first_root + 4 * (1 + 0)) 4 (length (zeros (frames * 4096))) (omega (arith, length_zeros (frames * 4096), roots, own)))
+    (range_lies (part.first_table + 1 + 0 * tables_for part.entries) (tables_for part.entries) (length (zeros (frames * 4096))) (omega (arith, length_zeros (frames * 4096), tables, tables_end 0 part.spaces (tables_for part.entries) own))))
 
 are_zeros : (part : Layout) (frames : ℕ) (memory : List ℕ) → memory ≡ zeros (frames * 4096) → AreZeros (space_frames part 0) memory
 are_zeros part frames memory is =

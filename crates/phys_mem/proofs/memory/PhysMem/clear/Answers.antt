@@ -2,8 +2,9 @@ use Rattle.std.proofs.Common.{◌∙◌, ◌≤◌, ◌+◌, ap, length, refl, r
 use Rattle.arch_defs.specs.Memory.{pasted, zeros}
 use Rattle.arch_defs.proofs.Pastes.{length_pasted}
 use Rattle.phys_mem.proofs.FrameBytes.{size_is}
-use Rattle.phys_mem.proofs.PiecesLaid.{length_zeros, cleared_none, cleared_more}
+use Rattle.phys_mem.proofs.PiecesLaid.{cleared_none, cleared_more}
 use Rattle.phys_mem.proofs.memory.PhysMem.clear.Goals as goal
+use Rattle.arch_defs.proofs.Images.{length_zeros}
 
 pub loop-done-init : goal.loop-done-init
 loop-done-init c = record { within = omega arith; size = refl; cleared = cleared_none c.args.self.now c.args.at }
