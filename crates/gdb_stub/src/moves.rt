@@ -107,8 +107,8 @@ impl<R: Runner + Drop> Session<R> {
     // Goes on to a stop, where the machine goes on.
     fn go_on(&mut self, alloc: Global, seen: &[(Watched, u8)]) -> Result<(), NoMemory>
         requires held { ShowsPosition R.Runner self.old }
-        requires seen { seen.now
-            ≡ seen_in (machine_shown (recording_of R.Runner self.old) (session_state self.old)) self.old.watched.items }
+        requires seen { seen.now ≡ seen_in
+            (machine_shown (recording_of R.Runner self.old) (session_state self.old)) self.old.watched.items }
         ensures keeps { KeepsSession R.Runner self.old self.new }
         ensures state { OnOk result (session_state self.new
             ≡ come_to (recording_of R.Runner self.old) (session_state self.old) Move.Continue) }
@@ -123,8 +123,8 @@ impl<R: Runner + Drop> Session<R> {
     // Goes back to a stop, or to the start.
     fn go_back(&mut self, alloc: Global, seen: &[(Watched, u8)]) -> Result<(), NoMemory>
         requires held { ShowsPosition R.Runner self.old }
-        requires seen { seen.now
-            ≡ seen_in (machine_shown (recording_of R.Runner self.old) (session_state self.old)) self.old.watched.items }
+        requires seen { seen.now ≡ seen_in
+            (machine_shown (recording_of R.Runner self.old) (session_state self.old)) self.old.watched.items }
         ensures keeps { KeepsSession R.Runner self.old self.new }
         ensures state { OnOk result (session_state self.new
             ≡ come_to (recording_of R.Runner self.old) (session_state self.old) Move.ContinueBack) }
@@ -136,8 +136,8 @@ impl<R: Runner + Drop> Session<R> {
     // Makes a move, from where watched bytes are these.
     fn go(&mut self, alloc: Global, way: Move, seen: &[(Watched, u8)]) -> Result<(), NoMemory>
         requires held { ShowsPosition R.Runner self.old }
-        requires seen { seen.now
-            ≡ seen_in (machine_shown (recording_of R.Runner self.old) (session_state self.old)) self.old.watched.items }
+        requires seen { seen.now ≡ seen_in
+            (machine_shown (recording_of R.Runner self.old) (session_state self.old)) self.old.watched.items }
         ensures keeps { KeepsSession R.Runner self.old self.new }
         ensures state { OnOk result (session_state self.new
             ≡ come_to (recording_of R.Runner self.old) (session_state self.old) way) }
