@@ -11,7 +11,7 @@ from nesthv_tools import csrs, registers, saves
 class CsrTest(unittest.TestCase):
     def test_names_of_the_program(self):
         """The list has the numbers that the program's tests have."""
-        with open(os.path.join(TOP, "crates", "sample_programs", "src", "names.rt"), encoding="utf-8") as file:
+        with open(os.path.join(TOP, "crates", "test_programs", "src", "names.rt"), encoding="utf-8") as file:
             pairs = re.findall(r'\("(\w+)", 0x([0-9A-Fa-f]{3})\)', file.read())
         self.assertGreater(len(pairs), 25)
         for name, number in pairs:

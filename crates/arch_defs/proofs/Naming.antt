@@ -3,7 +3,7 @@ use Rattle.std.proofs.Common.{◌≡◌, ℕ, zero, suc, ◌+◌, ◌*◌, ◌/�
 use Rattle.std.specs.List.{list_any}
 use Rattle.std.proofs.lemmas.Bool.{or_cases, both_ways, not-true, and_parts, leb-true, eqb-true, eq-eqb}
 use Rattle.std.proofs.lemmas.List.Folds.{list_any_at}
-use Rattle.guest_specs.specs.Needs.{tables_for}
+use Rattle.guest_settings.specs.Needs.{tables_for}
 use Rattle.arch_defs.specs.Frames.{in_blocks, within, joined, Apart}
 use Rattle.arch_defs.specs.Layouts.{Layout, NamesEachOnce, are_distinct, blocks_are_apart, ranges_are_apart, names_each_once, root_frames, table_frames}
 use Rattle.arch_defs.specs.Ram.{IsDistinct}

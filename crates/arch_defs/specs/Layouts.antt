@@ -3,9 +3,9 @@ use Rattle.std.specs.Prelude.{ℕ, ◌≡◌, ◌+◌, ◌*◌, ◌%◌, ◌≤�
 use Rattle.std.specs.List.{list_any, list_all}
 use Rattle.arch_defs.specs.Frames.{Frames, within, in_blocks, joined, Apart}
 use Rattle.arch_defs.specs.Ram.{IsDistinct}
-use Rattle.guest_specs.specs.declared.needs.Need.{Need}
-use Rattle.guest_specs.specs.Limits.{most_blocks}
-use Rattle.guest_specs.specs.Needs.{tables_for}
+use Rattle.guest_settings.specs.declared.needs.Need.{Need}
+use Rattle.guest_settings.specs.Limits.{most_blocks}
+use Rattle.guest_settings.specs.Needs.{tables_for}
 
 -- its blocks, in the order in which its RAM goes through them; the first frame of its roots, and that of its
 -- other tables; how many cached spaces it has, and at most how many entries each

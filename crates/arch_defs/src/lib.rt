@@ -23,7 +23,7 @@ pub use csr_names::{CsrEnd, EnableCsr, HypervisorCsr, InterruptCsr, Register, Su
 pub use devices::DEVICE_FRAME;
 pub use first::{FirstEntry, Tag};
 pub use first_buffers::{FIRST_ROOM, FirstBuffer};
-pub use guest_specs::{MOST_BLOCKS, Need, TABLES_PER_ENTRY};
+pub use guest_settings::{MOST_BLOCKS, Need, TABLES_PER_ENTRY};
 pub use hart_states::HartState;
 pub use keys::Key;
 pub use laws::{frames_apart_stay, ram_is_its_blocks};

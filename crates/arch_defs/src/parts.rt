@@ -6,7 +6,7 @@ ghost use Rattle.arch_defs.specs.Layouts.{Layout, NamesEachOnce, named_by};
 ghost use Rattle.arch_defs.specs.Memory.{block_size};
 ghost use Rattle.arch_defs.specs.Ram.{host_place};
 
-use guest_specs::{MOST_BLOCKS, TABLES_PER_ENTRY};
+use guest_settings::{MOST_BLOCKS, TABLES_PER_ENTRY};
 use std::marker::Model;
 
 /// The bytes of a frame.

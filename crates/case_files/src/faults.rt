@@ -1,8 +1,8 @@
 // Why a line of a case was not obeyed.
 
 use no_memory::NoMemory;
-use sample_programs::LineFault;
 use std::alloc::{AllocError, AllocFailed};
+use test_programs::LineFault;
 
 #[derive(Clone, Copy)]
 pub enum Fault {

@@ -4,9 +4,9 @@ use crate::faults::Fault;
 use crate::terms::{Names, number};
 use crate::text::push_quoted;
 use no_memory::NoMemory;
-use sample_programs::words;
 use std::alloc::Global;
 use std::mem;
+use test_programs::words;
 use work_images::{guests, noise};
 
 #[derive(Drop)]

@@ -1,6 +1,6 @@
 -- The fields of a console.
 use Rattle.std.specs.Prelude.{◌≤◌, drop, length, vec_capacity}
-use Rattle.guest_specs.specs.Inputs.{AreInputs}
+use Rattle.guest_settings.specs.Inputs.{AreInputs}
 use Rattle.console_dev.specs.declared.consoles.Console.TheInside.{Inside}
 use Rattle.arch_defs.specs.Consoles.{ConsoleState}
 

@@ -2,7 +2,7 @@
 
 ghost use Rattle.std.specs.Prelude.{◌≡◌, ◌≢◌, ◌↔◌, ◌<◌, ◌≤◌, [], ◌∷◌, ◌++◌, true, false, length, not, All, IfOk, IsTrue};
 ghost use Rattle.arch_defs.specs.Consoles.{has_room};
-ghost use Rattle.guest_specs.specs.Inputs.{AreInputs};
+ghost use Rattle.guest_settings.specs.Inputs.{AreInputs};
 ghost use Rattle.arch_defs.specs.Inputs.{arrived_byte, has_input, next_input, unread_after};
 
 use no_memory::NoMemory;

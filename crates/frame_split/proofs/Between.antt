@@ -2,10 +2,10 @@
 use Rattle.std.proofs.Common.{◌≡◌, ℕ, ◌+◌, ◌*◌, ◌/◌, ◌%◌, ◌<◌, ◌≤◌, ◌⊎◌, inl, inr, true, false, List, length, slice_index, take, refl, ◌∙◌, arith}
 use Rattle.std.proofs.lemmas.Bool.{cases_Bool, or_cases}
 use Rattle.std.proofs.lemmas.List.{length-take-le, get_or-take}
-use Rattle.guest_specs.specs.declared.needs.Need.{Need}
+use Rattle.guest_settings.specs.declared.needs.Need.{Need}
 use Rattle.arch_defs.specs.Frames.{in_blocks, Apart, LieIn}
 use Rattle.arch_defs.specs.Layouts.{Layout, NamesEachOnce, in_tables, root_frames, table_frames, named_by, Meets}
-use Rattle.guest_specs.specs.Needs.{tables_for, IsNeed}
+use Rattle.guest_settings.specs.Needs.{tables_for, IsNeed}
 use Rattle.arch_defs.specs.Ram.{IsDistinct}
 use Rattle.arch_defs.proofs.FrameSets.{range_parts, ranges_apart, block_found}
 use Rattle.frame_split.specs.declared.planning.Free.{Free}

@@ -2,10 +2,10 @@
 use Rattle.std.proofs.Common.{◌≡◌, ℕ, ◌+◌, ◌*◌, ◌%◌, ◌<◌, ◌≤◌, ◌⊎◌, inl, inr, true, List, [], ◌∷◌, ◌++◌, length, get_or, drop, refl, sym, ap, subst, ◌∙◌, arith}
 use Rattle.std.proofs.lemmas.Bool.{cases_lt, or_cases}
 use Rattle.std.proofs.lemmas.List.{get_or_append_left, get_or_push, length_push, get_or_default}
-use Rattle.guest_specs.specs.declared.needs.Need.{Need}
+use Rattle.guest_settings.specs.declared.needs.Need.{Need}
 use Rattle.arch_defs.specs.Frames.{Apart}
 use Rattle.arch_defs.specs.Layouts.{Layout, NamesEachOnce, named_by, in_tables, root_frames, table_frames, Meets}
-use Rattle.guest_specs.specs.Needs.{tables_for}
+use Rattle.guest_settings.specs.Needs.{tables_for}
 use Rattle.arch_defs.proofs.FrameSets.{apart_sym}
 use Rattle.frame_split.specs.declared.planning.Free.{Free}
 use Rattle.frame_split.specs.Shares.{ArePairwiseApart, BlocksLieBelow, IsSplit, LiesBetween, IsOrdered, RootsLieFrom, SoFar, after_need, blocks_of_all, roots_of_all, tables_of_all}

@@ -1,8 +1,8 @@
 -- Sums of needs, need by need.
 use Rattle.std.proofs.Common.{◌≡◌, ℕ, ◌+◌, ◌*◌, ◌<◌, List, [], ◌∷◌, length, get_or, drop, arith}
 use Rattle.std.proofs.lemmas.List.{at_drop_more}
-use Rattle.guest_specs.specs.declared.needs.Need.{Need}
-use Rattle.guest_specs.specs.Needs.{tables_for}
+use Rattle.guest_settings.specs.declared.needs.Need.{Need}
+use Rattle.guest_settings.specs.Needs.{tables_for}
 use Rattle.frame_split.specs.Shares.{frames_of_all, blocks_of_all, roots_of_all, tables_of_all}
 
 pub blocks_more : (needs : List Need) (i : ℕ) (d : Need) → i < length needs → blocks_of_all (drop i needs) ≡ (get_or needs i d).blocks + blocks_of_all (drop (i + 1) needs)

@@ -1,13 +1,13 @@
 -- How machine memory is shared out.
 use Rattle.std.specs.Prelude.{ℕ, ◌≡◌, ◌≢◌, ◌+◌, ◌*◌, ◌%◌, ◌<◌, ◌≤◌, true, List, [], ◌∷◌, length, get_or, drop, slice_index}
-use Rattle.guest_specs.specs.declared.needs.Need.{Need}
+use Rattle.guest_settings.specs.declared.needs.Need.{Need}
 use Rattle.frame_split.specs.declared.planning.Free.{Free}
 use Rattle.frame_split.specs.declared.faults.PlanFault.{PlanFault}
 use Rattle.frame_split.specs.declared.faults.PlanFault.TheVariants.{NoMemory, TooMuch}
 use Rattle.arch_defs.specs.Frames.{in_blocks, Apart, LieIn, most_frames}
 use Rattle.arch_defs.specs.Layouts.{Layout, NamesEachOnce, in_tables, root_frames, table_frames, named_by, Meets}
-use Rattle.guest_specs.specs.Limits.{most_entries, most_spaces}
-use Rattle.guest_specs.specs.Needs.{tables_for, IsNeed, frames_needed}
+use Rattle.guest_settings.specs.Limits.{most_entries, most_spaces}
+use Rattle.guest_settings.specs.Needs.{tables_for, IsNeed, frames_needed}
 
 -- the frames that all of them need
 abbrev pub frames_of_all : List Need → ℕ

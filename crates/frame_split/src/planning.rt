@@ -3,7 +3,7 @@
 ghost use Rattle.std.specs.Prelude.{◌≡◌, ℕ, ◌+◌, ◌*◌, ◌%◌, ◌<◌, ◌≤◌, ◌^◌, length, slice_index, IfOk, IfErr, IfSome};
 ghost use Rattle.arch_defs.specs.Frames.{most_frames};
 ghost use Rattle.arch_defs.specs.Layouts.{NamesEachOnce, Meets};
-ghost use Rattle.guest_specs.specs.Needs.{tables_for, IsNeed};
+ghost use Rattle.guest_settings.specs.Needs.{tables_for, IsNeed};
 ghost use Rattle.frame_split.specs.Shares.{AreNeeds, BlocksLieBelow, Causes, IsSplit, LeavesSpare, LiesBetween, after_need, blocks_of_all, frames_with, most_guest_tables, RootsLieFrom, roots_of_all, tables_of_all};
 
 use crate::faults::PlanFault;

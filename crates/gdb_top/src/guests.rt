@@ -9,8 +9,8 @@ ghost use Rattle.run_config.specs.Configurations.{IsTurnWithin};
 ghost use Rattle.nesthv_top.specs.Seen.{plan_seen, IsJob};
 ghost use Rattle.gdb_top.specs.Debugging.{recording_for};
 
+use debug_runs::HostRun;
 use gdb_stub::{Session, Talk, TalkEnd};
-use guest_runs::HostRun;
 use nesthv_top::Job;
 use outside::Connection;
 use std::alloc::Global;

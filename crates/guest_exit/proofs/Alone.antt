@@ -23,7 +23,7 @@ use Rattle.shadow_pool.specs.Slots.{KeepsPool, pool_frames, room_of, spaces_of}
 use Rattle.guest_exit.specs.declared.guests.Guest.{Guest}
 use Rattle.guest_exit.specs.declared.hart_exit.Handled.{Handled}
 use Rattle.guest_exit.specs.declared.hart_exit.Handled.TheVariants as handled
-use Rattle.guest_exit.specs.ExitCases.{having_found}
+use Rattle.hosted_steps.specs.ExitCases.{having_found}
 use Rattle.guest_exit.specs.HartExit.{HoldsTables, IsFinished, IsHandled, KeepsOutside, KeepsPart, with_pc, with_state}
 use Rattle.guest_exit.specs.Steps.{IsMiss, IsNotPlain, Makes}
 use Rattle.guest_exit.specs.View.{IsPlaced, KeepsLayout, KeepsSpaces, changed_by, machine_of, platform_of}

@@ -1,5 +1,5 @@
 -- What an entry of the hart for one step is to the lone machine.
-use Rattle.std.specs.Prelude.{◌&&◌, nat_le, not, option_and_then}
+use Rattle.std.specs.Prelude.{◌&&◌, nat_le, not, option_and_then, length, nat_lt, ◌*◌}
 use Rattle.std.proofs.Common.{cond, ◌≡◌, ℕ, zero, suc, ◌+◌, ◌-◌, ◌%◌, ◌^◌, ◌<◌, ◌≤◌, List, [], ◌∷◌, Option, Some, None, Bool, true, false, refl, ap, sym, subst, arith, ◌∙◌}
 use Rattle.std.proofs.lemmas.List.{append-nil}
 use Rattle.std.proofs.lemmas.List.Sums.{sum_by-append}
@@ -15,30 +15,29 @@ use Rattle.arch_defs.specs.Interrupts.{due, interrupt_of}
 use Rattle.arch_defs.specs.Layouts.{Layout, NamesEachOnce}
 use Rattle.arch_defs.specs.Ram.{ram_of}
 use Rattle.arch_defs.specs.Memory.{block_size}
-use Rattle.machine_laws.specs.Keeping.{IsOrderly}
+use Rattle.fill_laws.specs.Keeping.{IsOrderly}
 use Rattle.std.specs.List.{All}
-use Rattle.std.specs.Prelude.{length, nat_lt, ◌*◌}
 use Rattle.arch_defs.specs.Traps.{is_virtual}
 use Rattle.arch_defs.proofs.FrameSets.{only_both, only_none}
 use Rattle.machine_defs.specs.declared.events.Event.{Event}
 use Rattle.machine_defs.specs.declared.events.Event.TheVariants as event
-use Rattle.guest_specs.specs.declared.statuses.Status.TheVariants.{Running}
-use Rattle.machine_laws.specs.HostPlaces.{in_ram, memory_place}
+use Rattle.guest_settings.specs.declared.statuses.Status.TheVariants.{Running}
+use Rattle.instruction_laws.specs.HostPlaces.{in_ram, memory_place}
 use Rattle.machine_defs.specs.Fills.{missing_entry}
 use Rattle.machine_defs.specs.FirstLeaves.{tag_of}
 use Rattle.machine_defs.specs.Machine.{Machine, Platform, ticked, trapped, with_lines, with_pending_lines}
-use Rattle.machine_laws.specs.Reservations.{HasPlace}
+use Rattle.run_laws.specs.Reservations.{HasPlace}
 use Rattle.machine_defs.specs.Tries.{try, try_under}
 use Rattle.arch_defs.specs.Inputs.{has_input}
 use Rattle.machine_defs.specs.Runs.{event_in, events, left_after, left_by, pc_and_word, run, trace_of}
-use Rattle.machine_laws.specs.Renaming.{ReservesWithin, renamed}
-use Rattle.machine_laws.proofs.Running.{events_compose, runs_compose}
-use Rattle.machine_laws.specs.Budgets.{NeedNoFill}
-use Rattle.machine_laws.proofs.Filling.{interrupted_misses_nothing}
-use Rattle.machine_laws.proofs.Orderly.{stays_orderly}
-use Rattle.machine_laws.specs.StorableStates.{IsStorable}
-use Rattle.machine_laws.proofs.StorableRuns.{stays_storable}
-use Rattle.machine_laws.proofs.Stepping.{step_ready, try_is_event}
+use Rattle.instruction_laws.specs.Renaming.{ReservesWithin, renamed}
+use Rattle.fill_laws.proofs.Running.{events_compose, runs_compose}
+use Rattle.fill_laws.specs.Budgets.{NeedNoFill}
+use Rattle.fill_laws.proofs.Filling.{interrupted_misses_nothing}
+use Rattle.fill_laws.proofs.Orderly.{stays_orderly}
+use Rattle.run_laws.specs.StorableStates.{IsStorable}
+use Rattle.run_laws.proofs.StorableRuns.{stays_storable}
+use Rattle.fill_laws.proofs.Stepping.{step_ready, try_is_event}
 use Rattle.rv64_hart.specs.declared.harts.Why.{Why}
 use Rattle.rv64_hart.specs.declared.harts.Why.TheVariants.{Limit, Exit, VsTrap}
 use Rattle.rv64_hart.specs.Counts.{IsRaisedBy}
@@ -49,13 +48,13 @@ use Rattle.world_switch.specs.Hosting.{after_hs_trap, guest_state_after, guest_s
 use Rattle.world_switch.specs.Laws.{KeepsHidden}
 use Rattle.world_switch.proofs.Registers.{none_waits}
 use Rattle.world_switch.proofs.Undone.{load_after_save, save_after_load, saved_v, virtual_mode, saves_own}
-use Rattle.guest_exit.specs.ExitCases.{IsLeft, exit_of, found_next}
+use Rattle.hosted_steps.specs.ExitCases.{IsLeft, exit_of, found_next}
 use Rattle.guest_exit.specs.HartEntry.{EndsInTrap, Hands, IsStopped, Lasts, is_watched, moved, taken_back}
-use Rattle.guest_exit.specs.HartSteps.{Follows, IsAt, IsOf, KeepsHart, event_for, host_takes, root_for, root_frame_for}
-use Rattle.guest_exit.proofs.Followed.{followed}
-use Rattle.guest_exit.proofs.Interrupts.{own_after}
+use Rattle.hosted_steps.specs.HartSteps.{Follows, IsAt, IsOf, KeepsHart, event_for, host_takes, root_for, root_frame_for}
+use Rattle.hosted_steps.proofs.Followed.{followed}
+use Rattle.hosted_steps.proofs.Interrupts.{own_after}
 use Rattle.guest_exit.proofs.Pools.{size_of, tidy_by_blocks}
-use Rattle.guest_exit.proofs.Stands.{none_written}
+use Rattle.hosted_steps.proofs.Stands.{none_written}
 
 -- numbers and tests, apart from the machines that they are of
 some_more : (n : ℕ) → 0 < n + 1

@@ -6,11 +6,11 @@ use Rattle.arch_defs.specs.declared.cached.Fence.{Fence}
 use Rattle.arch_defs.specs.declared.first.FirstEntry.{FirstEntry}
 use Rattle.arch_defs.specs.Registers.{a7, read}
 use Rattle.machine_defs.specs.declared.events.Event.TheVariants.{System}
-use Rattle.guest_specs.specs.declared.statuses.Status.TheVariants.{Running, Waiting}
+use Rattle.guest_settings.specs.declared.statuses.Status.TheVariants.{Running, Waiting}
 use Rattle.machine_defs.specs.Machine.{Machine, Platform, Tried, Ended, WaitsForGood, stepped_to, stopped_if, trapped, with_first}
 use Rattle.machine_defs.specs.Runs.{left_after, left_by}
 use Rattle.machine_defs.specs.Tries.{try}
-use Rattle.machine_laws.proofs.TryEnds.{Calls, Fences, Halts, Makes, Passes, Serves, Takes}
+use Rattle.instruction_laws.proofs.TryEnds.{Calls, Fences, Halts, Makes, Passes, Serves, Takes}
 use Rattle.guest_exit.specs.declared.hart_exit.Handled.{Handled}
 use Rattle.guest_exit.specs.declared.hart_exit.Handled.TheVariants as handled
 use Rattle.guest_exit.specs.HartExit.{status_after}

@@ -30,8 +30,8 @@ use Rattle.machine_defs.specs.Machine.{Machine, ticked, trapped, with_pending_li
 use Rattle.machine_defs.specs.Outcomes.{Outcome, Done, Trapped, Missed, Called, Waits, Fenced, FirstFenced, Accesses}
 use Rattle.machine_defs.specs.Runs.{left_by}
 use Rattle.machine_defs.specs.Tries.{apply_outcome, device_of, enters, hlv_committed}
-use Rattle.machine_laws.specs.InstructionEnds.{HlvHas}
-use Rattle.machine_laws.proofs.Completions.{completed_same, hlv_each}
+use Rattle.instruction_laws.specs.InstructionEnds.{HlvHas}
+use Rattle.instruction_laws.proofs.Completions.{completed_same, hlv_each}
 use Rattle.hcsr_emulation.specs.declared.registers.Accessed.{Accessed}
 use Rattle.hcsr_emulation.specs.declared.registers.Accessed.TheVariants as answer
 use Rattle.hlv_hsv.specs.Ends.{EndsAs, EndsBy, HlvState, IsHlvOrHsv, hlv_left, hlv_state, served_from}

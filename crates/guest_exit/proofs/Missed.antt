@@ -1,74 +1,29 @@
 -- An access to which the second stage gives no place: one to the device page, a fill, or the fault of the walk of the guest's own table.
-use Rattle.std.specs.Prelude.{◌&&◌, nat_lt}
-use Rattle.std.proofs.Common.{cond, ◌≡◌, ℕ, ◌^◌, ◌<◌, Bool, true, false, List, [], ◌∷◌, length, Option, Some, None, refl, ap, sym, ◌∙◌, arith}
+use Rattle.std.proofs.Common.{cond, ◌≡◌, ℕ, ◌<◌, Bool, true, false, List, [], ◌∷◌, length, Option, Some, None, refl, sym, ◌∙◌, arith}
 use Rattle.arch_defs.specs.declared.cached.Entry.{Entry}
-use Rattle.arch_defs.specs.declared.second_walks.SecondWalkEnd.TheVariants.{GuestPageFault}
-use Rattle.arch_defs.specs.declared.modes.Access.{Access}
-use Rattle.arch_defs.specs.declared.roots.GuestMode.{GuestMode}
-use Rattle.arch_defs.specs.declared.roots.GuestMode.TheVariants.{Sv39x4, Sv48x4}
-use Rattle.arch_defs.specs.declared.roots.GuestRoot.{GuestRoot}
-use Rattle.arch_defs.specs.declared.roots.GuestRoot.TheVariants as root
-use Rattle.arch_defs.specs.declared.registers.Virtual.{Virtual}
 use Rattle.arch_defs.specs.declared.walks.MissingPlace.{MissingPlace}
 use Rattle.arch_defs.specs.CachedEntries.{CanFill}
-use Rattle.arch_defs.specs.Memory.{Memory, ram_memory}
 use Rattle.arch_defs.specs.Ram.{ram_of}
-use Rattle.arch_defs.specs.Roots.{guest_shape, is_table}
 use Rattle.arch_defs.specs.Spaces.{Space, front as spaces_front}
-use Rattle.arch_defs.specs.SecondStage.{guest_page_trap, is_implicit, missing_place_by, missing_place_trap, missing_place_under, second_walk}
-use Rattle.arch_defs.specs.Traps.{is_virtual, missing_place_fault}
-use Rattle.arch_defs.specs.Walk.{guest_bits, end_of, path, walk}
-use Rattle.arch_defs.specs.WalkedEntries.{entry_by_end, entry_by_table, entry_by_walk, folds}
+use Rattle.arch_defs.specs.SecondStage.{is_implicit}
+use Rattle.arch_defs.specs.Traps.{missing_place_fault}
+use Rattle.arch_defs.specs.WalkedEntries.{folds}
 use Rattle.op_defs.specs.declared.ops.DataAccess.{DataAccess}
 use Rattle.machine_defs.specs.DeviceSteps.{DeviceCompletion, device_wanted, served}
 use Rattle.machine_defs.specs.Fills.{fill, filled_front, missing_entry_at}
 use Rattle.machine_defs.specs.Machine.{Machine, trapped}
 use Rattle.machine_defs.specs.Tries.{device_of, unplaced}
-use Rattle.machine_laws.proofs.Leaves.{fills_can_be_made}
-use Rattle.machine_laws.specs.FrontSpaces.{FrontIs}
+use Rattle.fill_laws.proofs.Leaves.{fills_can_be_made}
+use Rattle.instruction_laws.specs.FrontSpaces.{FrontIs}
 use Rattle.shadow_pool.specs.Slots.{KeepsPool, space_at, spaces_of}
 use Rattle.guest_exit.specs.declared.guests.Guest.{Guest}
-use Rattle.guest_exit.specs.ExitCases.{Missing, entry_for, entry_for_exit}
+use Rattle.hosted_steps.specs.ExitCases.{Missing, entry_for, entry_for_exit}
 use Rattle.guest_exit.specs.Steps.{IsNotPlain}
 use Rattle.guest_exit.specs.View.{IsPlaced, machine_of, platform_of}
 use Rattle.machine_defs.specs.Outcomes.{Missed}
 use Rattle.guest_exit.proofs.Alone.{machine_as}
 use Rattle.guest_exit.proofs.ExitCases.{filled_by}
 use Rattle.guest_exit.proofs.Pools.{ram_by_pool, size_of}
-
--- an address of more bits than any table translates has no walk
-beyond : (address : ℕ) → nat_lt address (2 ^ guest_bits) ≡ false → nat_lt address (2 ^ 41) ≡ false
-beyond address far = grind (arith, far)
-
-far_walk : (memory : Memory) (mxr : Bool) (mode : GuestMode) (ppn address : ℕ) (kind : Access) → nat_lt address (2 ^ guest_bits) ≡ false
-    → second_walk memory mxr (guest_shape mode) ppn address kind ≡ GuestPageFault
-unfolding second_walk walk path end_of
-far_walk memory mxr Sv39x4 ppn address kind far = rw (beyond address far) refl
-far_walk memory mxr Sv48x4 ppn address kind far = rw far refl
-
--- so nothing is filled for it, and its fault is a guest-page fault
-pub record IsFar (device : Bool) (v : Virtual) (ram : List ℕ) (u : MissingPlace) : Type 0 where
-  pub none : entry_by_walk device v.csrs ram u.address u.kind ≡ None
-  pub faults : missing_place_trap v.csrs (ram_memory ram) u ≡ guest_page_trap u
-
-pub far_is : (device : Bool) (v : Virtual) (ram : List ℕ) (u : MissingPlace) → folds v ≡ true → u.mode ≡ v.mode → nat_lt u.address (2 ^ guest_bits) ≡ false
-    → IsFar device v ram u
-unfolding entry_by_walk
-far_is device v ram u folding mode far = record {
-  none = none v.csrs.hgatp;
-  faults = ap (λ mode. missing_place_under (ram_memory ram) v.csrs.hs.status.mxr u (cond (is_virtual mode) v.csrs.hgatp root.Bare)) mode
-      ∙ faults v.csrs.hgatp (is_virtual v.mode) folding;
-}
-  where
-    none : (hgatp : GuestRoot) → entry_by_table device v.csrs.hs.status.mxr ram u.address u.kind hgatp ≡ None
-    none root.Bare = refl
-    none (root.Table table vmid ppn) = ap (entry_by_end device u.address) (far_walk (ram_memory ram) v.csrs.hs.status.mxr table ppn u.address u.kind far)
-
-    faults : (hgatp : GuestRoot) (virtual : Bool) → (virtual && is_table hgatp) ≡ true
-        → missing_place_under (ram_memory ram) v.csrs.hs.status.mxr u (cond virtual hgatp root.Bare) ≡ guest_page_trap u
-    faults root.Bare true is = absurd cc
-    faults hgatp false is = absurd cc
-    faults (root.Table table vmid ppn) true is = ap (missing_place_by u) (far_walk (ram_memory ram) v.csrs.hs.status.mxr table ppn u.address u.kind far)
 
 -- what it gives can be filled
 pub can_fill : (old : Guest) (memory : List ℕ) (missing : MissingPlace) (e : Entry) → IsPlaced old memory

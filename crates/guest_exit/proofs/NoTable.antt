@@ -20,7 +20,7 @@ use Rattle.machine_defs.specs.FirstLeaves.{entry_walked, found_at, found_by_effe
 use Rattle.machine_defs.specs.Machine.{Machine}
 use Rattle.machine_defs.specs.Tries.{found_by_try, found_with_code, mmu_under, stages_of}
 use Rattle.arch_defs.specs.Interrupts.{due}
-use Rattle.guest_exit.specs.ExitCases.{found_next}
+use Rattle.hosted_steps.specs.ExitCases.{found_next}
 
 abbrev IsBare : Virtual → Type 0
 IsBare virt = (supervisor_of virt.csrs virt.mode).atp ≡ root.Bare

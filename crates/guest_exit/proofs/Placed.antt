@@ -17,23 +17,23 @@ use Rattle.arch_defs.specs.Ram.{ram_of}
 use Rattle.arch_defs.proofs.FrameSets.{apart_sym, kept, left_within, only_more}
 use Rattle.host_tables.specs.Walks.{IsHeld}
 use Rattle.host_tables.proofs.Held.{held_by_blocks}
-use Rattle.machine_laws.specs.HostPlaces.{in_ram}
+use Rattle.instruction_laws.specs.HostPlaces.{in_ram}
 use Rattle.machine_defs.specs.Machine.{Machine}
-use Rattle.machine_laws.specs.Renaming.{ReservesWithin}
-use Rattle.machine_laws.specs.Reservations.{HasPlace, KeepsInRam, ReservesInRam, places_from}
+use Rattle.instruction_laws.specs.Renaming.{ReservesWithin}
+use Rattle.run_laws.specs.Reservations.{HasPlace, KeepsInRam, ReservesInRam, places_from}
 use Rattle.machine_defs.specs.Runs.{left_after, run}
-use Rattle.machine_laws.proofs.InRam.{fill_stays_in_ram, stays_in_ram, try_stays_in_ram}
-use Rattle.machine_laws.specs.Keeping.{IsOrderly}
-use Rattle.machine_laws.proofs.Orderly.{fill_stays_orderly, stays_orderly, try_stays_orderly}
-use Rattle.machine_laws.specs.StorableStates.{IsStorable}
-use Rattle.machine_laws.proofs.StorableRuns.{fill_stays_storable, stays_storable, try_stays_storable}
+use Rattle.run_laws.proofs.InRam.{fill_stays_in_ram, stays_in_ram, try_stays_in_ram}
+use Rattle.fill_laws.specs.Keeping.{IsOrderly}
+use Rattle.fill_laws.proofs.Orderly.{fill_stays_orderly, stays_orderly, try_stays_orderly}
+use Rattle.run_laws.specs.StorableStates.{IsStorable}
+use Rattle.run_laws.proofs.StorableRuns.{fill_stays_storable, stays_storable, try_stays_storable}
 use Rattle.shadow_pool.specs.Slots.{Pooled, TidyPool, pool_frames, room_of, spaces_of, table_frames_for}
 use Rattle.guest_exit.specs.declared.guests.Guest.{Guest}
-use Rattle.guest_exit.specs.DevicePages.{CachesOwnDevice, IsOfDevice}
-use Rattle.guest_exit.specs.HartSteps.{IsAt, changing}
+use Rattle.hosted_steps.specs.DevicePages.{CachesOwnDevice, IsOfDevice}
+use Rattle.hosted_steps.specs.HartSteps.{IsAt, changing}
 use Rattle.guest_exit.specs.Steps.{Fills, MakesStep}
 use Rattle.guest_exit.specs.View.{IsPlaced, KeepsLayout, KeepsSpaces, changed_by, machine_of}
-use Rattle.guest_exit.proofs.DevicePages.{fill_keeps_device, run_keeps_device, try_keeps_device}
+use Rattle.hosted_steps.proofs.DevicePages.{fill_keeps_device, run_keeps_device, try_keeps_device}
 use Rattle.guest_exit.proofs.Pools.{held_after, size_of, tidy_by_blocks}
 
 -- what is reserved in RAM of that many bytes

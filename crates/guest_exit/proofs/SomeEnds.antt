@@ -8,9 +8,9 @@ use Rattle.machine_defs.specs.Core.{Completion}
 use Rattle.machine_defs.specs.Machine.{Machine, Tried, with_first}
 use Rattle.machine_defs.specs.Outcomes.{Outcome, Done, Trapped, Missed, Called, Waits, Fenced, FirstFenced, Accesses}
 use Rattle.machine_defs.specs.Tries.{fence_under, outcome_under, stages_of, try}
-use Rattle.machine_laws.specs.InstructionEnds.{OutcomeHas}
-use Rattle.machine_laws.proofs.Completions.{hlv_each}
-use Rattle.machine_laws.proofs.TryEnds.{TryEnd, try_end}
+use Rattle.instruction_laws.specs.InstructionEnds.{OutcomeHas}
+use Rattle.instruction_laws.proofs.Completions.{hlv_each}
+use Rattle.instruction_laws.proofs.TryEnds.{TryEnd, try_end}
 
 abbrev pub SomeEnd : Machine → Tried → Option Fence → Type 0
 SomeEnd m tried fence = TryEnd (λ (completion : Completion). Unit {0}) (λ (virt : Virtual). Unit {0}) m tried fence

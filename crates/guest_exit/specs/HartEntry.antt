@@ -8,7 +8,7 @@ use Rattle.arch_defs.specs.Inputs.{has_input}
 use Rattle.arch_defs.specs.Layouts.{Layout}
 use Rattle.arch_defs.specs.Traps.{is_virtual}
 use Rattle.machine_defs.specs.declared.events.Event.TheVariants as event
-use Rattle.guest_specs.specs.declared.statuses.Status.TheVariants.{Running}
+use Rattle.guest_settings.specs.declared.statuses.Status.TheVariants.{Running}
 use Rattle.machine_defs.specs.Machine.{Machine, Platform, with_pending_lines}
 use Rattle.machine_defs.specs.Runs.{event_in, run}
 use Rattle.machine_defs.specs.Tries.{try}
@@ -21,7 +21,7 @@ use Rattle.shadow_pool.specs.Slots.{Pooled}
 use Rattle.world_switch.specs.Hosting.{after_hs_trap, loaded_in, saved_in}
 use Rattle.world_switch.specs.Laws.{waits_for_hs}
 use Rattle.guest_exit.specs.declared.guests.Guest.{Guest}
-use Rattle.guest_exit.specs.HartSteps.{host_takes, root_for}
+use Rattle.hosted_steps.specs.HartSteps.{host_takes, root_for}
 use Rattle.guest_exit.specs.View.{IsPlaced, KeepsSpaces, loaded_for, platform_of}
 
 -- at each of that many steps, whether something has come is the same as it is now

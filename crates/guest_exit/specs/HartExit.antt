@@ -12,8 +12,8 @@ use Rattle.arch_defs.specs.Traps.{is_virtual}
 use Rattle.op_defs.specs.declared.ops.Op.{Op}
 use Rattle.op_defs.specs.declared.ops.Op.TheVariants as op
 use Rattle.machine_defs.specs.declared.events.Event.TheVariants.{System}
-use Rattle.guest_specs.specs.declared.statuses.Status.{Status}
-use Rattle.guest_specs.specs.declared.statuses.Status.TheVariants as status
+use Rattle.guest_settings.specs.declared.statuses.Status.{Status}
+use Rattle.guest_settings.specs.declared.statuses.Status.TheVariants as status
 use Rattle.machine_defs.specs.Fills.{fill}
 use Rattle.machine_defs.specs.Machine.{Machine, with_pending_lines}
 use Rattle.machine_defs.specs.Outcomes.{Fenced}
@@ -26,7 +26,7 @@ use Rattle.hcsr_emulation.specs.Ends.{is_decided}
 use Rattle.guest_exit.specs.declared.guests.Guest.{Guest}
 use Rattle.guest_exit.specs.declared.hart_exit.Handled.{Handled}
 use Rattle.guest_exit.specs.declared.hart_exit.Handled.TheVariants.{Stepped, Retry, Waits, Stopped}
-use Rattle.guest_exit.specs.ExitCases.{Exit, Instruction, Missing, Call, Own, entry_for_exit, try_at}
+use Rattle.hosted_steps.specs.ExitCases.{Exit, Instruction, Missing, Call, Own, entry_for_exit, try_at}
 use Rattle.guest_exit.specs.HartEntry.{Hands}
 use Rattle.guest_exit.specs.Steps.{CanStep, Fills, IsNotPlain, MakesStep}
 use Rattle.guest_exit.specs.View.{IsPlaced, KeepsLayout, changed_by, machine_of, platform_of}

@@ -1,12 +1,12 @@
 -- The next step of a guest's lone machine, and what is left after it.
 use Rattle.std.specs.Prelude.{ℕ, ◌≡◌, ◌+◌, ◌^◌, ◌<◌, ◌≤◌, List, Some, None}
 use Rattle.arch_defs.specs.declared.cached.Entry.{Entry}
-use Rattle.guest_specs.specs.declared.statuses.Status.TheVariants.{Running}
+use Rattle.guest_settings.specs.declared.statuses.Status.TheVariants.{Running}
 use Rattle.machine_defs.specs.Fills.{fill, missing_entry}
 use Rattle.machine_defs.specs.Machine.{Machine, Tried}
 use Rattle.machine_defs.specs.Runs.{event_in, instruction_count, left_after, left_by, plain_count, run, trace_of}
 use Rattle.machine_defs.specs.Tries.{try}
-use Rattle.machine_laws.specs.Budgets.{NeedNoFill}
+use Rattle.fill_laws.specs.Budgets.{NeedNoFill}
 use Rattle.guest_exit.specs.declared.guests.Guest.{Guest}
 use Rattle.guest_exit.specs.View.{machine_of}
 

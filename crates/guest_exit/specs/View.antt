@@ -7,7 +7,7 @@ use Rattle.machine_defs.specs.Machine.{Machine, Platform}
 use Rattle.shadow_pool.specs.Slots.{room_of, spaces_of}
 use Rattle.world_switch.specs.Hosting.{loaded_in}
 use Rattle.guest_exit.specs.declared.guests.Guest.{Guest}
-use Rattle.guest_exit.specs.HartSteps.{IsAt, changing, root_for}
+use Rattle.hosted_steps.specs.HartSteps.{IsAt, changing, root_for}
 
 -- the lone machine's platform
 abbrev pub platform_of : Guest → Platform

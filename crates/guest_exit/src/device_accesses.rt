@@ -3,7 +3,7 @@
 ghost use Rattle.std.specs.Prelude.{◌≡◌};
 ghost use Rattle.arch_defs.specs.SecondStage.{is_implicit};
 ghost use Rattle.machine_defs.specs.DeviceSteps.{device_step, on_device};
-ghost use Rattle.guest_exit.specs.ExitCases.{data_wanted, having_found};
+ghost use Rattle.hosted_steps.specs.ExitCases.{data_wanted, having_found};
 ghost use Rattle.guest_exit.specs.HartExit.{CanGoOn, IsTold};
 ghost use Rattle.guest_exit.specs.Steps.{CanStep, Makes};
 ghost use Rattle.guest_exit.specs.View.{KeepsSpaces, machine_of};

@@ -4,7 +4,7 @@ ghost use Rattle.std.specs.Prelude.{◌≡◌, ◌≤◌, ◌&&◌, ℕ, false, 
 ghost use Rattle.arch_defs.specs.Inputs.{has_come};
 ghost use Rattle.machine_defs.specs.Machine.{with_pending_lines};
 ghost use Rattle.guest_exit.specs.HartEntry.{KeepsCome, Lasts};
-ghost use Rattle.guest_exit.specs.HartSteps.{host_takes};
+ghost use Rattle.hosted_steps.specs.HartSteps.{host_takes};
 ghost use Rattle.world_switch.specs.Laws.{waits_for_hs};
 ghost use Rattle.guest_exit.specs.View.{platform_of};
 

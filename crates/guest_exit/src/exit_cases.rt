@@ -2,8 +2,8 @@
 
 ghost use Rattle.std.specs.Prelude.{◌≡◌, ◌-◌, ◌^◌, ◌<◌};
 ghost use Rattle.arch_defs.specs.Walk.{guest_bits};
-ghost use Rattle.machine_laws.specs.MissedPlaces.{access_of, told_place};
-ghost use Rattle.guest_exit.specs.ExitCases.{access_fault_for, is_guest_page_code};
+ghost use Rattle.instruction_laws.specs.MissedPlaces.{access_of, told_place};
+ghost use Rattle.hosted_steps.specs.ExitCases.{access_fault_for, is_guest_page_code};
 
 use arch_defs::{
     Access, INSTRUCTION_ACCESS_FAULT, INSTRUCTION_GUEST_PAGE_FAULT, LOAD_ACCESS_FAULT,

@@ -3,10 +3,10 @@
 ghost use Rattle.std.specs.Prelude.{◌≡◌};
 ghost use Rattle.machine_defs.specs.Runs.{events, trace_of};
 ghost use Rattle.rv64_hart.specs.Steps.{is_vs_trap, progress};
-ghost use Rattle.machine_laws.specs.HostPlaces.{in_ram};
-ghost use Rattle.machine_laws.specs.Renaming.{ReservesWithin};
+ghost use Rattle.instruction_laws.specs.HostPlaces.{in_ram};
+ghost use Rattle.instruction_laws.specs.Renaming.{ReservesWithin};
 ghost use Rattle.guest_exit.specs.HartEntry.{CanEnter, GoesOn, HartMakes, HasRoomForEntry, IsAccounted, KeepsTables, Stops, is_watched};
-ghost use Rattle.guest_exit.specs.HartSteps.{root_frame_for};
+ghost use Rattle.hosted_steps.specs.HartSteps.{root_frame_for};
 ghost use Rattle.guest_exit.specs.Steps.{MakesSteps};
 ghost use Rattle.guest_exit.specs.View.{loaded_for, machine_of};
 
@@ -60,7 +60,7 @@ fn root_frame_of(guest: &Guest) -> u64
 }
 
 /// What the hart has for the guest, where it is loaded.
-#[tactic(auto, unfolding(crate::specs::HartSteps::root_for))]
+#[tactic(auto, unfolding(hosted_steps::specs::HartSteps::root_for))]
 pub(crate) fn hart_state_for(guest: &Guest) -> HartState
     requires held { ReservesWithin (in_ram guest.now.part.blocks) guest.now.virt.reservation }
     ensures { result ≡ loaded_for guest.now }

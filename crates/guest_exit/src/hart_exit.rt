@@ -8,9 +8,9 @@ ghost use Rattle.machine_defs.specs.Machine.{WaitsForGood, called, stepped_to, t
 ghost use Rattle.machine_defs.specs.Tries.{try};
 ghost use Rattle.rv64_asm.specs.Fitting.{fits};
 ghost use Rattle.rv64_hart.specs.Leaves.{LeavesFit, leaves_list};
-ghost use Rattle.guest_exit.specs.ExitCases.{Call, Own, decided_at, decided_in, exit_of, far_exit, found_next, if_decided, instruction_exit, missing_place_exit, other_exit};
+ghost use Rattle.hosted_steps.specs.ExitCases.{Call, Own, decided_at, decided_in, exit_of, far_exit, found_next, if_decided, instruction_exit, missing_place_exit, other_exit};
 ghost use Rattle.guest_exit.specs.HartExit.{CanGoOn, HasExited, IsHandled, IsMadeFor, IsStopCall, IsTold, KeepsPart};
-ghost use Rattle.guest_exit.specs.HartSteps.{host_takes};
+ghost use Rattle.hosted_steps.specs.HartSteps.{host_takes};
 ghost use Rattle.guest_exit.specs.Steps.{CanStep, IsMiss, IsQuiet, Makes};
 ghost use Rattle.guest_exit.specs.View.{IsPlaced, KeepsSpaces, machine_of};
 

@@ -4,8 +4,8 @@ ghost use Rattle.std.specs.Prelude.{◌≡◌, List, Some, None, ℕ, false, tru
 ghost use Rattle.arch_defs.specs.declared.modes.Mode.{Mode};
 ghost use Rattle.arch_defs.specs.Interrupts.{due, vs_bit};
 ghost use Rattle.arch_defs.specs.Traps.{is_virtual};
-ghost use Rattle.guest_specs.specs.declared.statuses.Status.TheVariants.{Running};
-ghost use Rattle.guest_exit.specs.HartSteps.{host_takes, is_hosts};
+ghost use Rattle.guest_settings.specs.declared.statuses.Status.TheVariants.{Running};
+ghost use Rattle.hosted_steps.specs.HartSteps.{host_takes, is_hosts};
 ghost use Rattle.guest_exit.specs.Steps.{CanStep, TakesInterrupt};
 ghost use Rattle.guest_exit.specs.View.{IsPlaced, KeepsSpaces};
 

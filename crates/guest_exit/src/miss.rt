@@ -10,7 +10,7 @@ ghost use Rattle.arch_defs.specs.Spaces.{front};
 ghost use Rattle.machine_defs.specs.Machine.{trapped};
 ghost use Rattle.machine_defs.specs.Tries.{device_of};
 ghost use Rattle.shadow_pool.specs.Slots.{spaces_of};
-ghost use Rattle.guest_exit.specs.ExitCases.{Missing, entry_for, having_found, try_at};
+ghost use Rattle.hosted_steps.specs.ExitCases.{Missing, entry_for, having_found, try_at};
 ghost use Rattle.guest_exit.specs.HartExit.{CanGoOn, IsMadeOf, IsTold, KeepsOutside};
 ghost use Rattle.guest_exit.specs.Steps.{IsNotPlain, Makes};
 ghost use Rattle.guest_exit.specs.View.{KeepsSpaces, machine_of};

@@ -4,7 +4,7 @@ ghost use Rattle.std.specs.Prelude.{◌≡◌, ◌≢◌, ◌&&◌, ◌||◌, fa
 ghost use Rattle.arch_defs.specs.Bits.{bit};
 ghost use Rattle.arch_defs.specs.CsrBits.{sip_bits, supervisor_interrupts};
 ghost use Rattle.machine_defs.specs.Machine.{has_enabled_interrupt, waited, with_pending_lines};
-ghost use Rattle.guest_exit.specs.ExitCases.{having_found};
+ghost use Rattle.hosted_steps.specs.ExitCases.{having_found};
 ghost use Rattle.guest_exit.specs.HartExit.{IsTold, with_pc};
 ghost use Rattle.guest_exit.specs.Steps.{CanStep, Makes};
 ghost use Rattle.guest_exit.specs.View.{KeepsSpaces, platform_of};

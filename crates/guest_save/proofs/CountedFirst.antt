@@ -20,7 +20,7 @@ use Rattle.guest_save.specs.Reading.{after_first, first_entries_in, first_entry_
 use Rattle.guest_save.specs.Savable.{IsSavable}
 use Rattle.guest_save.specs.Versions.{CanTell}
 use Rattle.machine_defs.specs.Machine.{Machine}
-use Rattle.machine_laws.specs.FirstKeys.{IsOfFirstTable, IsStorableFirst, IsStorableTag, first_levels}
+use Rattle.run_laws.specs.FirstKeys.{IsOfFirstTable, IsStorableFirst, IsStorableTag, first_levels}
 
 -- a translation that can be told
 record CanBeTold (e : FirstEntry) : Type 0 where

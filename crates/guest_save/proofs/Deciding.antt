@@ -35,9 +35,9 @@ use Rattle.guest_save.specs.Saves.{SavedMachine, saved_form, saved_machine_in}
 use Rattle.guest_save.specs.Tests.{IsRead, IsReserved, IsSoundSpace}
 use Rattle.guest_save.specs.Versions.{version_in}
 use Rattle.machine_defs.specs.Machine.{Machine}
-use Rattle.machine_laws.specs.FrontSpaces.{FrontIs}
-use Rattle.machine_laws.specs.FirstKeys.{AreApart, HasFirst, IsOfFirstTable, first_levels}
-use Rattle.machine_laws.specs.Reservations.{places_from}
+use Rattle.instruction_laws.specs.FrontSpaces.{FrontIs}
+use Rattle.run_laws.specs.FirstKeys.{AreApart, HasFirst, IsOfFirstTable, first_levels}
+use Rattle.run_laws.specs.Reservations.{places_from}
 
 both : {x y : Bool} {P Q : Type 0} → Decides x P → Decides y Q → Decides (x && y) (P × Q)
 both {x} {y} first second = Decides-and x y first second

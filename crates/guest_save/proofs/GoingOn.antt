@@ -23,16 +23,16 @@ use Rattle.guest_save.specs.Laws.{ResumedGoesOn, SavableGoesOn, SavableIsFilled,
 use Rattle.machine_defs.specs.Bootable.{IsBootable}
 use Rattle.guest_save.specs.Savable.{Fits, IsInReach, IsSavableEntry, IsSavableSpace, pages_of, top_level_of}
 use Rattle.guest_save.specs.Saves.{SavedMachine}
-use Rattle.guest_specs.specs.declared.guests.GuestSpec.{GuestSpec}
+use Rattle.guest_settings.specs.declared.guests.GuestSpec.{GuestSpec}
 use Rattle.machine_defs.specs.Machine.{start}
 use Rattle.machine_defs.specs.Runs.{run}
-use Rattle.machine_laws.proofs.FirstKeys.{start_has_first}
-use Rattle.machine_laws.proofs.FirstRuns.{runs_first_fresh}
-use Rattle.machine_laws.proofs.FreshRuns.{runs_use_fresh}
-use Rattle.machine_laws.proofs.InRam.{start_is_in_ram}
-use Rattle.machine_laws.proofs.Running.{runs_compose}
-use Rattle.machine_laws.proofs.StorableRuns.{start_is_storable}
-use Rattle.machine_laws.specs.Reservations.{HasPlace}
+use Rattle.run_laws.proofs.FirstKeys.{start_has_first}
+use Rattle.cache_laws.proofs.FirstRuns.{runs_first_fresh}
+use Rattle.cache_laws.proofs.FreshRuns.{runs_use_fresh}
+use Rattle.run_laws.proofs.InRam.{start_is_in_ram}
+use Rattle.fill_laws.proofs.Running.{runs_compose}
+use Rattle.run_laws.proofs.StorableRuns.{start_is_storable}
+use Rattle.run_laws.specs.Reservations.{HasPlace}
 use Rattle.arch_defs.proofs.Images.{length_loaded}
 
 in_place : (size : ℕ) (device : Bool) (e : Entry) → IsInReach size device e → HasPlace size e

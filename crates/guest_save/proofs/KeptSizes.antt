@@ -27,9 +27,9 @@ use Rattle.machine_defs.specs.Machine.{Ended, Machine, Platform, Tried, WaitsFor
 use Rattle.machine_defs.specs.Outcomes.{Outcome, Done, Trapped, Missed, Called, Waits, Fenced, FirstFenced, Accesses}
 use Rattle.machine_defs.specs.Runs.{left_by, run}
 use Rattle.machine_defs.specs.Tries.{apply_outcome, device_of, found_by_outcome, hlv_committed, outcome_under, stages_of, tried_with, try, try_under, unplaced, with_found}
-use Rattle.machine_laws.proofs.Cached.{either}
-use Rattle.machine_laws.proofs.InRam.{stays_in_ram}
-use Rattle.machine_laws.proofs.KeptByRuns.{IsKept, kept_by_runs}
+use Rattle.instruction_laws.proofs.Cached.{either}
+use Rattle.run_laws.proofs.InRam.{stays_in_ram}
+use Rattle.instruction_laws.proofs.KeptByRuns.{IsKept, kept_by_runs}
 
 -- a call of the environment leaves the console's room
 environment_room : (s : CallState) → (environment s).console.room ≡ s.console.room

@@ -22,9 +22,9 @@ use Rattle.guest_save.specs.Registers.{csrs_in}
 use Rattle.guest_save.specs.Tests.{IsRead}
 use Rattle.guest_save.specs.Versions.{header_end, later_begin}
 use Rattle.machine_defs.specs.Machine.{Machine, with_lines}
-use Rattle.machine_laws.proofs.StoredForms.{atp_bare, atp_stored, hgatp_stored}
-use Rattle.machine_laws.specs.FirstKeys.{AreStorable, IsStorableFirst, IsStorableTag}
-use Rattle.machine_laws.specs.StorableStates.{stored_form}
+use Rattle.run_laws.proofs.StoredForms.{atp_bare, atp_stored, hgatp_stored}
+use Rattle.run_laws.specs.FirstKeys.{AreStorable, IsStorableFirst, IsStorableTag}
+use Rattle.run_laws.specs.StorableStates.{stored_form}
 
 capped_most : (most n : ℕ) → capped most n ≤ most
 capped_most most n = cond_both (nat_le n most) n most (λ (x : ℕ). x ≤ most) (λ is. leb-true n most is) (λ is. omega arith)

@@ -31,10 +31,10 @@ use Rattle.guest_save.specs.Registers.{csr_numbers, csrs_in}
 use Rattle.guest_save.specs.Savable.{Fits, IsInReach, IsSavable, IsSavableEntry, IsSavableSpace}
 use Rattle.guest_save.specs.Saves.{SavedMachine, saved_form, saved_machine_in}
 use Rattle.guest_save.specs.Versions.{CanTell, header_end, later_begin, version_letters, version_in}
-use Rattle.guest_specs.specs.declared.statuses.Status.{Status}
-use Rattle.guest_specs.specs.declared.statuses.Status.TheVariants.{Running, Waiting, Stopped}
+use Rattle.guest_settings.specs.declared.statuses.Status.{Status}
+use Rattle.guest_settings.specs.declared.statuses.Status.TheVariants.{Running, Waiting, Stopped}
 use Rattle.machine_defs.specs.Machine.{Machine, with_lines, with_pending_lines}
-use Rattle.machine_laws.specs.StorableStates.{ReservesAligned}
+use Rattle.run_laws.specs.StorableStates.{ReservesAligned}
 
 -- the small numbers of a header
 status_again : (status : Status) → status_by_number (status_number status) ≡ status

@@ -16,8 +16,8 @@ use Rattle.guest_save.proofs.Bits.{first_again, hstatus_again, second_again, sst
 use Rattle.guest_save.specs.Laws.{ReadIsStored}
 use Rattle.guest_save.specs.Registers.{after_sip, all_written, before_sip, csr_numbers, csrs_in, with_ssip}
 use Rattle.machine_defs.specs.Machine.{with_lines}
-use Rattle.machine_laws.proofs.StoredForms.{AtpStored, CsrsStored, written_stored}
-use Rattle.machine_laws.specs.StorableStates.{stored_form}
+use Rattle.run_laws.proofs.StoredForms.{AtpStored, CsrsStored, written_stored}
+use Rattle.run_laws.specs.StorableStates.{stored_form}
 
 -- satp is read over Bare, and stored over itself: its MODE names a table, so what was there has no part
 kept_apart : (kept other : SupervisorRoot) (v : ℕ) (mode : SupervisorMode) → supervisor_mode_of (field 60 4 v) ≡ Some mode

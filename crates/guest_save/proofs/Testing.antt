@@ -17,7 +17,7 @@ use Rattle.guest_save.specs.Headers.{header_numbers, header_of}
 use Rattle.guest_save.specs.Savable.{Fits, HasSizes, IsSavable, IsSavableSpace}
 use Rattle.guest_save.specs.Tests.{HasSoundSpaces, IsRead, IsSoundPlatform, IsSoundSpace}
 use Rattle.machine_defs.specs.Machine.{Machine}
-use Rattle.machine_laws.specs.FirstKeys.{HasFirst}
+use Rattle.run_laws.specs.FirstKeys.{HasFirst}
 
 sound_space : (size room : ℕ) (device : Bool) (s : Space) → IsSavableSpace size room device s → IsSoundSpace size room device s
 sound_space size room device s is = record { table = is.key.table; few = is.few; entries = is.entries; pages = is.pages }

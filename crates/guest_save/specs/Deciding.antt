@@ -18,10 +18,10 @@ use Rattle.guest_save.specs.declared.versions.Version.TheVariants.{Third}
 use Rattle.guest_save.specs.Headers.{header_numbers, header_of}
 use Rattle.guest_save.specs.Savable.{pages_of, top_level_of}
 use Rattle.guest_save.specs.Saves.{saved_form, saved_machine_in}
-use Rattle.guest_specs.specs.Limits.{least_entries, most_blocks, most_console, most_entries, most_spaces}
+use Rattle.guest_settings.specs.Limits.{least_entries, most_blocks, most_console, most_entries, most_spaces}
 use Rattle.machine_defs.specs.Machine.{Machine}
-use Rattle.machine_laws.specs.FirstKeys.{first_levels}
-use Rattle.machine_laws.specs.Reservations.{places_from}
+use Rattle.run_laws.specs.FirstKeys.{first_levels}
+use Rattle.run_laws.specs.Reservations.{places_from}
 
 -- whether a test passes of each element and each later one
 abbrev pub all_pairs : {A : Type 0} → (A → A → Bool) → List A → Bool

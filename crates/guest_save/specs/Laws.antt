@@ -13,13 +13,13 @@ use Rattle.guest_save.specs.Registers.{csrs_in}
 use Rattle.guest_save.specs.Savable.{HasSizes, IsSavable, IsSavableEntry}
 use Rattle.guest_save.specs.Saves.{saved_form, saved_machine_in}
 use Rattle.guest_save.specs.Versions.{CanTell}
-use Rattle.guest_specs.specs.declared.guests.GuestSpec.{GuestSpec}
+use Rattle.guest_settings.specs.declared.guests.GuestSpec.{GuestSpec}
 use Rattle.machine_defs.specs.Freshness.{FirstFresh, UsesFresh}
 use Rattle.machine_defs.specs.Machine.{Machine, start}
 use Rattle.machine_defs.specs.Runs.{run}
-use Rattle.machine_laws.specs.Keeping.{IsOrderly}
-use Rattle.machine_laws.specs.Reservations.{CachesInRam, ReservesInRam}
-use Rattle.machine_laws.specs.StorableStates.{stored_form}
+use Rattle.fill_laws.specs.Keeping.{IsOrderly}
+use Rattle.run_laws.specs.Reservations.{CachesInRam, ReservesInRam}
+use Rattle.run_laws.specs.StorableStates.{stored_form}
 use Rattle.machine_defs.specs.Bootable.{IsBootable}
 
 -- the form of a machine that can be saved gives it back, in each version that can tell it

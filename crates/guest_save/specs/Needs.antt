@@ -1,6 +1,6 @@
 -- What a saved machine needs of machine memory.
 use Rattle.guest_save.specs.Headers.{blocks_of}
-use Rattle.guest_specs.specs.declared.needs.Need.{Need}
+use Rattle.guest_settings.specs.declared.needs.Need.{Need}
 use Rattle.machine_defs.specs.Machine.{Machine}
 
 -- its RAM in blocks, and tables for as many spaces, and entries in each, as it has room for

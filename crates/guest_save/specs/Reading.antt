@@ -16,7 +16,7 @@ use Rattle.guest_save.specs.declared.versions.Version.TheVariants.{First, Second
 use Rattle.guest_save.specs.Headers.{header_in}
 use Rattle.guest_save.specs.Numbers.{items_in, number_in, leading_numbers}
 use Rattle.guest_save.specs.Versions.{header_end, later_begin, version_in}
-use Rattle.guest_specs.specs.Limits.{most_console, most_entries, most_inputs, most_spaces}
+use Rattle.guest_settings.specs.Limits.{most_console, most_entries, most_inputs, most_spaces}
 use Rattle.machine_defs.specs.Machine.{Machine, Platform, with_pending_lines}
 
 abbrev pub capped : ℕ → ℕ → ℕ

@@ -13,14 +13,14 @@ use Rattle.arch_defs.specs.WalkedEntries.{folds}
 use Rattle.guest_save.specs.declared.headers.Header.{Header}
 use Rattle.guest_save.specs.declared.versions.Version.TheVariants.{Third}
 use Rattle.guest_save.specs.Headers.{header_numbers, header_of}
-use Rattle.guest_specs.specs.Inputs.{AreInputs}
-use Rattle.guest_specs.specs.Limits as limit
+use Rattle.guest_settings.specs.Inputs.{AreInputs}
+use Rattle.guest_settings.specs.Limits as limit
 use Rattle.machine_defs.specs.Machine.{Machine, with_pending_lines}
-use Rattle.machine_laws.specs.FirstKeys.{AreStorable, HasFirst}
-use Rattle.machine_laws.specs.FrontSpaces.{FrontIs}
-use Rattle.machine_laws.specs.Reservations.{IsInRam, ReservesInRam}
-use Rattle.machine_laws.specs.StorableStates.{IsStorable}
-use Rattle.machine_laws.specs.Keys.{IsKey}
+use Rattle.run_laws.specs.FirstKeys.{AreStorable, HasFirst}
+use Rattle.instruction_laws.specs.FrontSpaces.{FrontIs}
+use Rattle.run_laws.specs.Reservations.{IsInRam, ReservesInRam}
+use Rattle.run_laws.specs.StorableStates.{IsStorable}
+use Rattle.run_laws.specs.Keys.{IsKey}
 
 -- a number of a form has 64 bits
 abbrev pub Fits : ℕ → Type 0

@@ -9,13 +9,13 @@ use Rattle.arch_defs.specs.Roots.{is_table}
 use Rattle.arch_defs.specs.Spaces.{Space}
 use Rattle.arch_defs.specs.WalkedEntries.{folds}
 use Rattle.guest_save.specs.Savable.{HasOtherKey, IsSavableEntry}
-use Rattle.guest_specs.specs.Limits.{most_inputs}
+use Rattle.guest_settings.specs.Limits.{most_inputs}
 use Rattle.machine_defs.specs.Machine.{Machine, Platform, with_pending_lines}
-use Rattle.machine_laws.specs.FirstKeys.{AreStorable}
-use Rattle.machine_laws.specs.FrontSpaces.{FrontIs}
-use Rattle.machine_laws.specs.Renaming.{ReservesWithin}
-use Rattle.machine_laws.specs.Reservations.{places_from}
-use Rattle.machine_laws.specs.StorableStates.{ReservesAligned, stored_form}
+use Rattle.run_laws.specs.FirstKeys.{AreStorable}
+use Rattle.instruction_laws.specs.FrontSpaces.{FrontIs}
+use Rattle.instruction_laws.specs.Renaming.{ReservesWithin}
+use Rattle.run_laws.specs.Reservations.{places_from}
+use Rattle.run_laws.specs.StorableStates.{ReservesAligned, stored_form}
 
 -- a machine that bytes give, whatever they are: x0 is 0, registers, keys and what first-stage translations
 -- are for are as they can be stored, and the bits that the clock and the console set are as these have them

@@ -5,7 +5,7 @@ ghost use Rattle.std.specs.List.{AllPairs};
 ghost use Rattle.guest_save.specs.Forms.{first_flags_of, first_numbers, tag_numbers};
 ghost use Rattle.guest_save.specs.Numbers.{leading_numbers};
 ghost use Rattle.guest_save.specs.Reading.{after_first, first_entries_in, first_entry_of, first_in, tag_in};
-ghost use Rattle.machine_laws.specs.FirstKeys.{AreApart, HasFirst, IsOfFirstTable, first_levels};
+ghost use Rattle.run_laws.specs.FirstKeys.{AreApart, HasFirst, IsOfFirstTable, first_levels};
 
 use crate::numbers::{after, count_in, numbers_in};
 use crate::versions::Version;

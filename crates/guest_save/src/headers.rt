@@ -6,7 +6,7 @@ ghost use Rattle.guest_save.specs.Headers.{header_in, mode_number, mode_by_numbe
 
 use crate::registers::csrs_in;
 use arch_defs::{FirstBuffer, Mode, Regs, Virtual};
-use guest_specs::Status;
+use guest_settings::Status;
 
 /// How many sizes a header has, and how many numbers behind them and the device page.
 pub const SIZE_NUMBERS: usize = 4;

@@ -7,7 +7,7 @@ ghost use Rattle.guest_save.specs.Reading.{after_space, after_spaces, entries_in
 
 use crate::numbers::{after, count_in, number_in, numbers_in};
 use arch_defs::{Entry, GuestRoot};
-use guest_specs::MOST_ENTRIES;
+use guest_settings::MOST_ENTRIES;
 use no_memory::NoMemory;
 use std::alloc::Global;
 use std::marker::Model;

@@ -16,7 +16,7 @@ use crate::numbers::{after, count_in, number_in, numbers_in};
 use crate::snapshots::Snapshot;
 use crate::versions::Version;
 use arch_defs::{BLOCK_SIZE, Entry, FirstBuffer, FirstEntry, GuestRoot};
-use guest_specs::{MOST_CONSOLE, MOST_INPUTS, MOST_SPACES};
+use guest_settings::{MOST_CONSOLE, MOST_INPUTS, MOST_SPACES};
 use no_memory::NoMemory;
 use std::alloc::Global;
 use std::marker::Model;

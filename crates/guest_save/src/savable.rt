@@ -11,8 +11,8 @@ ghost use Rattle.guest_save.specs.declared.versions.Version.TheVariants.{Third};
 ghost use Rattle.guest_save.specs.Headers.{header_numbers, numbered};
 ghost use Rattle.guest_save.specs.Savable.{Fits, HasOtherKey, HasSizes, IsInReach, IsSavable, IsSavableEntry, IsSavableSpace, pages_of, top_level_of};
 ghost use Rattle.guest_save.specs.Tests.{HasSoundSpaces, IsRead, IsReserved, IsSoundPlatform, IsSoundSpace};
-ghost use Rattle.machine_laws.specs.FrontSpaces.{FrontIs};
-ghost use Rattle.machine_laws.specs.Reservations.{places_from};
+ghost use Rattle.instruction_laws.specs.FrontSpaces.{FrontIs};
+ghost use Rattle.run_laws.specs.Reservations.{places_from};
 
 use crate::first_entries::has_first;
 use crate::headers::{Header, reservation_numbers};
@@ -21,7 +21,7 @@ use crate::machine_parts::MachineParts;
 use crate::registers::csr_numbers;
 use crate::snapshots::Snapshot;
 use arch_defs::{BLOCK_SIZE, DEVICE_FRAME, Entry, GuestMode, GuestRoot, RAM_BASE, Virtual};
-use guest_specs::{LEAST_ENTRIES, MOST_BLOCKS, MOST_CONSOLE, MOST_ENTRIES, MOST_SPACES};
+use guest_settings::{LEAST_ENTRIES, MOST_BLOCKS, MOST_CONSOLE, MOST_ENTRIES, MOST_SPACES};
 
 // Whether a number is within its limits.
 fn is_within(number: u64, least: u64, most: u64) -> bool

@@ -6,7 +6,7 @@ use Rattle.std.proofs.lemmas.List.Sums.{sum_by-append, sum_by-cons}
 use Rattle.machine_defs.specs.declared.events.Event.{Event}
 use Rattle.machine_defs.specs.Machine.{Machine}
 use Rattle.machine_defs.specs.Runs.{events, run}
-use Rattle.machine_laws.proofs.Running.{events_compose, events_idle, events_none}
+use Rattle.fill_laws.proofs.Running.{events_compose, events_idle, events_none}
 use Rattle.guest_turns.specs.Hosted.{machine_at, no_machine}
 use Rattle.guest_turns.specs.TurnLists.{TurnsCountAlike, events_from, own_steps, turn_events, updated, with_turn}
 

@@ -2,8 +2,8 @@
 use Rattle.std.specs.Prelude.{nat_le}
 use Rattle.std.specs.Option.{option_or}
 use Rattle.std.proofs.Common.{cond, ◌≡◌, ℕ, zero, suc, ◌+◌, ◌<◌, ◌≤◌, Bool, true, false, Option, None, refl, ap, sym, subst, arith, ◌∙◌}
-use Rattle.guest_specs.specs.declared.statuses.Status.{Status}
-use Rattle.guest_specs.specs.declared.statuses.Status.TheVariants as status
+use Rattle.guest_settings.specs.declared.statuses.Status.{Status}
+use Rattle.guest_settings.specs.declared.statuses.Status.TheVariants as status
 use Rattle.arch_defs.specs.declared.cached.Fence.{Fence}
 use Rattle.arch_defs.specs.declared.levels.Level.TheVariants as level
 use Rattle.arch_defs.specs.declared.modes.Mode.{Mode}
@@ -17,11 +17,11 @@ use Rattle.machine_defs.specs.Fills.{most_fills, ready}
 use Rattle.machine_defs.specs.Machine.{Machine, Tried, with_pending_lines}
 use Rattle.machine_defs.specs.Runs.{event_in, left_by, plain_count, run, step, stepped}
 use Rattle.machine_defs.specs.Tries.{try}
-use Rattle.machine_laws.proofs.TryEnds.{Calls, Fences, Halts, Makes, Passes, Serves, Takes}
+use Rattle.instruction_laws.proofs.TryEnds.{Calls, Fences, Halts, Makes, Passes, Serves, Takes}
 use Rattle.guest_exit.specs.HartEntry.{Lasts}
-use Rattle.guest_exit.specs.HartSteps.{is_hosts}
+use Rattle.hosted_steps.specs.HartSteps.{is_hosts}
 use Rattle.guest_exit.proofs.Entries.{run_further}
-use Rattle.guest_exit.proofs.Interrupts.{none_pending_waits}
+use Rattle.hosted_steps.proofs.Interrupts.{none_pending_waits}
 use Rattle.guest_exit.proofs.SomeEnds.{SomeEnd, some_end}
 use Rattle.guest_turns.specs.Calm.{ClearStepsAreCalm, IsClear}
 use Rattle.guest_turns.proofs.Current.{left_current}

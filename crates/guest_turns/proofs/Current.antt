@@ -1,6 +1,6 @@
 -- What the clock sets stays as the clock sets it, through steps and fills.
 use Rattle.std.proofs.Common.{◌≡◌, ap, subst, sym}
-use Rattle.guest_specs.specs.declared.statuses.Status.TheVariants as status
+use Rattle.guest_settings.specs.declared.statuses.Status.TheVariants as status
 use Rattle.machine_defs.specs.Machine.{Machine, Platform, Tried, Ended, WaitsForGood, with_pending_lines}
 use Rattle.machine_defs.specs.Runs.{left_by}
 use Rattle.machine_defs.specs.Tries.{try}

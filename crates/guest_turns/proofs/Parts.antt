@@ -1,10 +1,10 @@
 -- What one advance of a guest is to its lone machine: what the hart makes in an entry, and what the host
 -- makes after it.
 use Rattle.std.proofs.Common.{◌≡◌, ◌≢◌, ℕ, ◌+◌, ◌-◌, ◌<◌, ◌≤◌, List, ◌++◌, refl, ap, arith}
-use Rattle.guest_specs.specs.declared.statuses.Status.TheVariants.{Running}
+use Rattle.guest_settings.specs.declared.statuses.Status.TheVariants.{Running}
 use Rattle.machine_defs.specs.Machine.{with_pending_lines}
 use Rattle.machine_defs.specs.Runs.{events, run, trace_of}
-use Rattle.machine_laws.specs.Budgets.{NeedNoFill}
+use Rattle.fill_laws.specs.Budgets.{NeedNoFill}
 use Rattle.guest_exit.specs.declared.guests.Guest.{Guest}
 use Rattle.guest_exit.specs.declared.hart_exit.Handled.{Handled}
 use Rattle.guest_exit.specs.declared.hart_exit.Handled.TheVariants as handled

@@ -6,9 +6,9 @@ use Rattle.arch_defs.specs.Memory.{block_size}
 use Rattle.arch_defs.specs.Ram.{SlicesLieIn, ram_of}
 use Rattle.arch_defs.proofs.FrameSets.{left_within, only_both, only_more, same_fewer}
 use Rattle.arch_defs.proofs.RamBlocks.{ram_kept}
-use Rattle.machine_laws.specs.Keeping.{IsOrderly}
+use Rattle.fill_laws.specs.Keeping.{IsOrderly}
 use Rattle.host_tables.proofs.Held.{held_stays, host_in_part}
-use Rattle.machine_laws.specs.Reservations.{CachesInRam}
+use Rattle.run_laws.specs.Reservations.{CachesInRam}
 use Rattle.shadow_pool.specs.Slots.{pool_frames, room_of, table_frames_for}
 use Rattle.shadow_pool.proofs.Front.{pool_lasts}
 use Rattle.guest_exit.specs.declared.guests.Guest.{Guest}

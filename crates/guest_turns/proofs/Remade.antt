@@ -6,7 +6,7 @@ use Rattle.std.proofs.lemmas.List.{drop_more, get_or_default, get_or-drop, get_o
 use Rattle.std.proofs.lemmas.List.Elements.{All-head, All-tail}
 use Rattle.arch_defs.specs.declared.first.FirstEntry.{FirstEntry}
 use Rattle.arch_defs.specs.FirstEntries.{first_filled, first_room, is_first_of, without_first}
-use Rattle.machine_laws.specs.FirstKeys.{HasFirst}
+use Rattle.run_laws.specs.FirstKeys.{HasFirst}
 use Rattle.arch_defs.specs.declared.cached.Entry.{Entry}
 use Rattle.arch_defs.specs.declared.roots.GuestRoot.{GuestRoot}
 use Rattle.arch_defs.specs.CachedEntries.{HasOtherPage, filled, without}

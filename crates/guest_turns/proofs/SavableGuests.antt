@@ -13,18 +13,19 @@ use Rattle.arch_defs.specs.Roots.{is_root}
 use Rattle.arch_defs.specs.Spaces.{Space}
 use Rattle.arch_defs.proofs.SameRoots.{root_is}
 use Rattle.guest_exit.specs.declared.guests.Guest.{Guest}
-use Rattle.guest_exit.specs.DevicePages.{IsOfDevice}
+use Rattle.hosted_steps.specs.DevicePages.{IsOfDevice}
 use Rattle.guest_exit.specs.View.{machine_of}
 use Rattle.guest_exit.proofs.Pools.{size_of}
 use Rattle.guest_save.specs.Headers.{header_numbers, header_of}
 use Rattle.guest_save.specs.declared.versions.Version.TheVariants.{Third}
 use Rattle.guest_save.specs.Savable.{Fits, HasOtherKey, IsInReach, IsSavable, IsSavableEntry, IsSavableSpace}
-use Rattle.guest_specs.specs.Inputs.{AreInputs}
-use Rattle.machine_laws.specs.EachEntry.{EachEntry}
-use Rattle.machine_laws.specs.HostPlaces.{ram_size}
-use Rattle.machine_laws.specs.Keys.{HaveKeys, IsOfTable}
-use Rattle.machine_laws.specs.Renaming.{ReservesWithin}
-use Rattle.machine_laws.specs.Reservations.{HasPlace, places_from}
+use Rattle.guest_settings.specs.Inputs.{AreInputs}
+use Rattle.fill_laws.specs.EachEntry.{EachEntry}
+use Rattle.instruction_laws.specs.HostPlaces.{ram_size}
+use Rattle.run_laws.specs.Keys.{HaveKeys}
+use Rattle.fill_laws.specs.GivenEntries.{IsOfTable}
+use Rattle.instruction_laws.specs.Renaming.{ReservesWithin}
+use Rattle.run_laws.specs.Reservations.{HasPlace, places_from}
 use Rattle.shadow_pool.specs.declared.slots.Slot.{Slot}
 use Rattle.shadow_pool.specs.Slots.{AreSlots, AreTidy, has_key, no_space, space_at, spaces_in}
 use Rattle.shadow_pool.proofs.Listing.{entries_are, key_is}

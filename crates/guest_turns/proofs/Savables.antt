@@ -8,12 +8,12 @@ use Rattle.arch_defs.specs.declared.roots.GuestRoot.{GuestRoot}
 use Rattle.arch_defs.specs.Memory.{block_size, loaded, zeros}
 use Rattle.arch_defs.specs.Spaces.{Space}
 use Rattle.frame_split.specs.Shares.{AreNeeds}
-use Rattle.guest_exit.specs.DevicePages.{CachesOwnDevice, IsOfDevice}
+use Rattle.hosted_steps.specs.DevicePages.{CachesOwnDevice, IsOfDevice}
 use Rattle.guest_save.specs.Headers.{blocks_of}
 use Rattle.guest_save.specs.Savable.{IsInReach, IsSavable, IsSavableEntry, IsSavableSpace}
 use Rattle.guest_save.proofs.GoingOn.{start_is_savable}
-use Rattle.guest_specs.specs.declared.guests.GuestSpec.{GuestSpec}
-use Rattle.guest_specs.specs.Needs.{IsNeed}
+use Rattle.guest_settings.specs.declared.guests.GuestSpec.{GuestSpec}
+use Rattle.guest_settings.specs.Needs.{IsNeed}
 use Rattle.machine_defs.specs.Machine.{Machine, start}
 use Rattle.guest_turns.specs.declared.sources.Source.{Source}
 use Rattle.guest_turns.specs.declared.sources.Source.TheVariants.{Fresh, Kept}

@@ -13,10 +13,11 @@ use Rattle.guest_save.proofs.GoingOn.{savable_goes_on}
 use Rattle.guest_save.proofs.KeptSizes.{sizes_stay}
 use Rattle.machine_defs.specs.Machine.{Machine}
 use Rattle.machine_defs.specs.Runs.{run}
-use Rattle.machine_laws.specs.EachEntry.{EachEntry}
-use Rattle.machine_laws.specs.Keys.{HaveKeys, IsKey, IsOfTable}
-use Rattle.machine_laws.proofs.FirstKeys.{first_stays, first_stays_storable}
-use Rattle.machine_laws.proofs.Keys.{keys_stay, tables_stay}
+use Rattle.fill_laws.specs.EachEntry.{EachEntry}
+use Rattle.run_laws.specs.Keys.{HaveKeys, IsKey}
+use Rattle.fill_laws.specs.GivenEntries.{IsOfTable}
+use Rattle.run_laws.proofs.FirstKeys.{first_stays, first_stays_storable}
+use Rattle.run_laws.proofs.Keys.{keys_stay, tables_stay}
 use Rattle.guest_turns.specs.declared.sources.Source.{Source}
 use Rattle.guest_turns.specs.Saving.{MayBeSaved}
 use Rattle.guest_turns.specs.Sources.{IsBootableSource, machine_of_source}

@@ -13,16 +13,16 @@ use Rattle.arch_defs.proofs.Naming.{apart_joined}
 use Rattle.arch_defs.proofs.RamBlocks.{blocks_lie_in}
 use Rattle.block_moves.specs.Moves.{with_block}
 use Rattle.block_moves.proofs.Blocks.{apart_from_moved, blocks_apart, of_one, one_within, with_within}
-use Rattle.machine_laws.specs.HostPlaces.{in_ram}
-use Rattle.machine_laws.specs.Keeping.{IsOrderly}
-use Rattle.machine_laws.specs.Renaming.{ReservesWithin}
-use Rattle.machine_laws.specs.Reservations.{CachesInRam}
+use Rattle.instruction_laws.specs.HostPlaces.{in_ram}
+use Rattle.fill_laws.specs.Keeping.{IsOrderly}
+use Rattle.instruction_laws.specs.Renaming.{ReservesWithin}
+use Rattle.run_laws.specs.Reservations.{CachesInRam}
 use Rattle.host_tables.specs.Walks.{IsHeld}
 use Rattle.shadow_space.specs.Shadows.{AreZeros}
 use Rattle.shadow_pool.specs.Moves.{pool_in_part, slot_in_part}
 use Rattle.shadow_pool.specs.Slots.{Pooled, TidyPool, room_of, spaces_of}
 use Rattle.guest_exit.specs.declared.guests.Guest.{Guest}
-use Rattle.guest_exit.specs.DevicePages.{CachesOwnDevice}
+use Rattle.hosted_steps.specs.DevicePages.{CachesOwnDevice}
 use Rattle.guest_exit.specs.View.{machine_of, platform_of}
 use Rattle.guest_turns.specs.Hosted.{Hosted, count_set, is_set, part_at}
 use Rattle.guest_turns.specs.Hosting.{AreHosted, IsFree, IsHosted, parts_of}

@@ -12,7 +12,7 @@ use Rattle.arch_defs.proofs.FrameSets.{apart_sym, apart_within, kept, left_withi
 use Rattle.arch_defs.proofs.Images.{length_zeros}
 use Rattle.arch_defs.proofs.RamBlocks.{blocks_lie_in, ram_kept}
 use Rattle.arch_defs.proofs.Rooms.{first_lies}
-use Rattle.machine_laws.specs.Keeping.{IsOrderly}
+use Rattle.fill_laws.specs.Keeping.{IsOrderly}
 use Rattle.frame_split.specs.Shares.{ArePairwiseApart, IsSplit, LeavesSpare, MeetEach, frames_with}
 use Rattle.guest_save.specs.Laws.{IsRunnable}
 use Rattle.guest_save.specs.Savable.{IsSavable}
@@ -20,12 +20,12 @@ use Rattle.guest_save.proofs.GoingOn.{savable_goes_on}
 use Rattle.host_tables.specs.HostTable.{IsHostTable}
 use Rattle.host_tables.specs.Walks.{IsHeld}
 use Rattle.host_tables.proofs.Held.{host_in_part, host_in_tables, table_stays}
-use Rattle.guest_specs.specs.declared.guests.GuestSpec.{GuestSpec}
-use Rattle.machine_laws.specs.HostPlaces.{in_ram, ram_size}
+use Rattle.guest_settings.specs.declared.guests.GuestSpec.{GuestSpec}
+use Rattle.instruction_laws.specs.HostPlaces.{in_ram, ram_size}
 use Rattle.machine_defs.specs.Machine.{Machine, Platform, start, with_pending_lines}
-use Rattle.machine_laws.specs.Renaming.{ReservesWithin}
-use Rattle.machine_laws.specs.Reservations.{CachesInRam, places_from}
-use Rattle.machine_laws.specs.StorableStates.{IsStorable}
+use Rattle.instruction_laws.specs.Renaming.{ReservesWithin}
+use Rattle.run_laws.specs.Reservations.{CachesInRam, places_from}
+use Rattle.run_laws.specs.StorableStates.{IsStorable}
 use Rattle.shadow_pool.specs.Slots as slots
 use Rattle.shadow_pool.specs.Slots.{Pooled, TidyPool, pool_frames, room_of, spaces_of}
 use Rattle.shadow_pool.proofs.Apart.{host_apart, pool_within, ram_apart}
@@ -33,7 +33,7 @@ use Rattle.shadow_pool.proofs.Front.{pool_lasts}
 use Rattle.shadow_space.specs.Shadows.{AreZeros}
 use Rattle.shadow_space.proofs.Clearing.{zeros_at}
 use Rattle.guest_exit.specs.declared.guests.Guest.{Guest}
-use Rattle.guest_exit.specs.DevicePages.{CachesOwnDevice}
+use Rattle.hosted_steps.specs.DevicePages.{CachesOwnDevice}
 use Rattle.guest_exit.specs.View.{machine_of, platform_of}
 use Rattle.guest_exit.proofs.Pools.{pool_in_part, size_of}
 use Rattle.guest_turns.specs.declared.sources.Source.{Source}

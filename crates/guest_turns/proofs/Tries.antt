@@ -6,7 +6,7 @@ use Rattle.arch_defs.specs.Calls.{environment, state_of}
 use Rattle.arch_defs.specs.Registers.{a7, read}
 use Rattle.machine_defs.specs.Machine.{Machine, Platform, Tried, Ended, WaitsForGood, called, with_pending_lines, stopped_if, with_call, with_first}
 use Rattle.machine_defs.specs.Tries.{try}
-use Rattle.machine_laws.proofs.TryEnds.{Calls, Fences, Halts, Makes, Passes, Serves, Takes}
+use Rattle.instruction_laws.proofs.TryEnds.{Calls, Fences, Halts, Makes, Passes, Serves, Takes}
 use Rattle.guest_exit.proofs.SomeEnds.{SomeEnd, some_end}
 
 pub record IsStep (m after : Machine) : Type 0 where

@@ -5,7 +5,7 @@ use Rattle.std.proofs.lemmas.List.{ext_get_or}
 use Rattle.std.proofs.lemmas.List.Sums.{sum_by-cons}
 use Rattle.machine_defs.specs.Machine.{Machine}
 use Rattle.machine_defs.specs.Runs.{run}
-use Rattle.machine_laws.proofs.Running.{run_none, runs_compose}
+use Rattle.fill_laws.proofs.Running.{run_none, runs_compose}
 use Rattle.guest_turns.specs.Hosted.{machine_at, no_machine}
 use Rattle.guest_turns.specs.TurnLists.{OrderHasNoEffect, RunsItsOwnTurns, TurnsKeepCount, own_steps, with_turn, with_turns}
 use Rattle.guest_turns.proofs.Updating.{length_updated, updated_other, updated_same}

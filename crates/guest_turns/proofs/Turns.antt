@@ -4,15 +4,15 @@ use Rattle.std.proofs.lemmas.Bool.{cases_lt}
 use Rattle.std.proofs.lemmas.List.Sums.{sum_by-append}
 use Rattle.machine_defs.specs.declared.events.Event.{Event}
 use Rattle.machine_defs.specs.declared.events.Event.TheVariants as event
-use Rattle.guest_specs.specs.declared.statuses.Status.{Status}
-use Rattle.guest_specs.specs.declared.statuses.Status.TheVariants as status
+use Rattle.guest_settings.specs.declared.statuses.Status.{Status}
+use Rattle.guest_settings.specs.declared.statuses.Status.TheVariants as status
 use Rattle.machine_defs.specs.Fills.{most_tries, needed, ready}
 use Rattle.machine_defs.specs.Machine.{Machine, Tried, Ended, WaitsForGood}
 use Rattle.machine_defs.specs.Runs.{event_in, events, events_by, instruction_count, is_instruction, is_plain_step, left_after, pc_and_word, plain_count, run, step, trace_of}
 use Rattle.machine_defs.specs.Tries.{try}
-use Rattle.machine_laws.proofs.Running.{run_none, run_idle, events_none, events_idle, events_compose}
-use Rattle.machine_laws.specs.Budgets.{Goes, NeedNoFill, budget}
-use Rattle.machine_laws.proofs.Stepping.{budget_is_small, fill_goes, fill_is_no_event, ready_steps_go, try_goes, try_is_event}
+use Rattle.fill_laws.proofs.Running.{run_none, run_idle, events_none, events_idle, events_compose}
+use Rattle.fill_laws.specs.Budgets.{Goes, NeedNoFill, budget}
+use Rattle.fill_laws.proofs.Stepping.{budget_is_small, fill_goes, fill_is_no_event, ready_steps_go, try_goes, try_is_event}
 use Rattle.rv64_hart.specs.Counts.{Counts, IsRaisedBy}
 use Rattle.guest_exit.specs.declared.hart_exit.Handled.{Handled}
 use Rattle.guest_exit.specs.declared.hart_exit.Handled.TheVariants as handled

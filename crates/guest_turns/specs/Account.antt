@@ -2,7 +2,7 @@
 use Rattle.std.specs.Prelude.{ℕ, ◌≡◌, ◌+◌, ◌%◌, ◌^◌, ◌<◌, ◌≤◌}
 use Rattle.machine_defs.specs.Machine.{Machine}
 use Rattle.machine_defs.specs.Runs.{events, instruction_count, plain_count, trace_of}
-use Rattle.machine_laws.specs.Budgets.{budget}
+use Rattle.fill_laws.specs.Budgets.{budget}
 use Rattle.rv64_hart.specs.Counts.{Counts, IsRaisedBy}
 use Rattle.guest_turns.specs.Calm.{AreCalm, calm_entries}
 use Rattle.guest_turns.specs.TurnLists.{turn_entries}

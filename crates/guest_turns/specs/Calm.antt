@@ -1,6 +1,6 @@
 -- Calm steps, of which one entry of the hart makes all of a turn's (own).
 use Rattle.std.specs.Prelude.{ℕ, zero, suc, ◌≡◌, ◌<◌, None}
-use Rattle.guest_specs.specs.declared.statuses.Status.TheVariants.{Running}
+use Rattle.guest_settings.specs.declared.statuses.Status.TheVariants.{Running}
 use Rattle.arch_defs.specs.Registers.{clear_interrupts}
 use Rattle.machine_defs.specs.Fills.{missing_entry}
 use Rattle.machine_defs.specs.Machine.{Machine, with_pending_lines}

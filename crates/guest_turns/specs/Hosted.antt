@@ -6,7 +6,7 @@ use Rattle.arch_defs.specs.declared.modes.Mode.TheVariants.{HS}
 use Rattle.arch_defs.specs.Clocks.{times_at_start}
 use Rattle.arch_defs.specs.Layouts.{Layout, no_part}
 use Rattle.arch_defs.specs.Registers.{virtual_at}
-use Rattle.guest_specs.specs.declared.statuses.Status.TheVariants.{Stopped}
+use Rattle.guest_settings.specs.declared.statuses.Status.TheVariants.{Stopped}
 use Rattle.machine_defs.specs.Machine.{Machine}
 
 pub record Hosted : Type 0 where

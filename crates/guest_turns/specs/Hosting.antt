@@ -3,11 +3,11 @@ use Rattle.std.specs.Prelude.{ℕ, ◌≡◌, ◌+◌, ◌*◌, ◌^◌, ◌<◌
 use Rattle.arch_defs.specs.Frames.{Apart, Frames, LieIn, Only, in_blocks}
 use Rattle.arch_defs.specs.Layouts.{Layout, named_by}
 use Rattle.arch_defs.specs.Ram.{ram_of}
-use Rattle.machine_laws.specs.Budgets.{Goes}
+use Rattle.fill_laws.specs.Budgets.{Goes}
 use Rattle.frame_split.specs.Shares.{ArePairwiseApart, IsSplit}
 use Rattle.host_tables.specs.HostTable.{IsHostTable}
-use Rattle.guest_specs.specs.declared.guests.GuestSpec.{GuestSpec}
-use Rattle.guest_specs.specs.declared.statuses.Status.TheVariants.{Running}
+use Rattle.guest_settings.specs.declared.guests.GuestSpec.{GuestSpec}
+use Rattle.guest_settings.specs.declared.statuses.Status.TheVariants.{Running}
 use Rattle.machine_defs.specs.Machine.{Machine, start, with_pending_lines}
 use Rattle.machine_defs.specs.Runs.{run}
 use Rattle.shadow_pool.specs.Slots as slots

@@ -2,11 +2,11 @@
 use Rattle.std.specs.Prelude.{ℕ, ◌≤◌, List, length, map}
 use Rattle.arch_defs.specs.Frames.{most_frames}
 use Rattle.std.specs.List.{All}
-use Rattle.guest_specs.specs.declared.needs.Need.{Need}
+use Rattle.guest_settings.specs.declared.needs.Need.{Need}
 use Rattle.frame_split.specs.Shares.{frames_of_all}
-use Rattle.guest_specs.specs.Limits.{most_guests}
-use Rattle.guest_specs.specs.Needs.{need_of}
-use Rattle.guest_specs.specs.declared.guests.GuestSpec.{GuestSpec}
+use Rattle.guest_settings.specs.Limits.{most_guests}
+use Rattle.guest_settings.specs.Needs.{need_of}
+use Rattle.guest_settings.specs.declared.guests.GuestSpec.{GuestSpec}
 use Rattle.machine_defs.specs.Bootable.{IsBootable}
 
 -- what each guest needs of machine memory

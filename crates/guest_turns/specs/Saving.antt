@@ -3,9 +3,10 @@ use Rattle.std.specs.Prelude.{◌≤◌, ◌^◌, length}
 use Rattle.guest_save.specs.Headers.{header_of}
 use Rattle.guest_save.specs.Savable.{HasSizes}
 use Rattle.machine_defs.specs.Machine.{Machine}
-use Rattle.machine_laws.specs.EachEntry.{EachEntry}
-use Rattle.machine_laws.specs.FirstKeys.{AreStorable, HasFirst}
-use Rattle.machine_laws.specs.Keys.{HaveKeys, IsOfTable}
+use Rattle.fill_laws.specs.EachEntry.{EachEntry}
+use Rattle.run_laws.specs.FirstKeys.{AreStorable, HasFirst}
+use Rattle.run_laws.specs.Keys.{HaveKeys}
+use Rattle.fill_laws.specs.GivenEntries.{IsOfTable}
 
 -- what a machine has that can be saved, beside what a host keeps of it: sizes within the limits; few steps;
 -- spaces for values of hgatp that can be stored and name a table, whose entries such a table can give; and

@@ -1,8 +1,8 @@
 -- Where guests come from, and what a host can boot.
 use Rattle.std.specs.Prelude.{ℕ, ◌≤◌, List, length, map}
 use Rattle.std.specs.List.{All}
-use Rattle.guest_specs.specs.declared.needs.Need.{Need}
-use Rattle.guest_specs.specs.Needs.{need_of}
+use Rattle.guest_settings.specs.declared.needs.Need.{Need}
+use Rattle.guest_settings.specs.Needs.{need_of}
 use Rattle.guest_save.specs.Needs as saved
 use Rattle.guest_save.specs.Savable.{IsSavable}
 use Rattle.machine_defs.specs.Machine.{Machine, start}

@@ -7,7 +7,7 @@ ghost use Rattle.guest_turns.specs.declared.sources.Source.TheVariants.{Fresh};
 
 use arch_defs::Need;
 use guest_save::Saved;
-use guest_specs::Name;
+use guest_settings::Name;
 use machine_defs::GuestSpec;
 use no_memory::NoMemory;
 use std::alloc::Global;

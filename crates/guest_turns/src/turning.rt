@@ -1,7 +1,7 @@
 // A turn of one guest.
 
 ghost use Rattle.std.specs.Prelude.{◌≡◌, ◌≢◌, ◌+◌, ◌^◌, ◌<◌, ◌≤◌};
-ghost use Rattle.guest_specs.specs.declared.statuses.Status.TheVariants.{Running};
+ghost use Rattle.guest_settings.specs.declared.statuses.Status.TheVariants.{Running};
 ghost use Rattle.guest_exit.specs.View.{machine_of};
 ghost use Rattle.guest_turns.specs.Account.{Accounted, AccountedTo, HasRoomForTurn};
 ghost use Rattle.guest_turns.specs.Hosting.{Advances, CountsLeft, HasRun, IsHosted, used_by};

@@ -3,7 +3,7 @@ use Rattle.std.proofs.Common.{◌≡◌, ℕ, ◌+◌, ◌*◌, ◌/◌, ◌<◌
 use Rattle.std.proofs.lemmas.Bool.{cases_lt}
 use Rattle.arch_defs.specs.Frames.{LieIn, Only, Same, Within, within}
 use Rattle.arch_defs.specs.Layouts.{Layout, NamesEachOnce, named_by, root_frames, table_frames, in_tables}
-use Rattle.guest_specs.specs.Needs.{tables_for}
+use Rattle.guest_settings.specs.Needs.{tables_for}
 use Rattle.arch_defs.proofs.FrameSets.{only_both, in_range, range_within, kept, within_apart, apart_within}
 use Rattle.arch_defs.proofs.Rooms.{range_room, first_lies, second_lies, fewer_lie}
 use Rattle.table_words.specs.Words.{doubleword_at, with_word}

@@ -1,9 +1,9 @@
 -- The guests that a host can boot (own).
 use Rattle.std.specs.Prelude.{◌*◌, ◌≤◌, length}
 use Rattle.arch_defs.specs.Memory.{block_size}
-use Rattle.guest_specs.specs.declared.guests.GuestSpec.{GuestSpec}
-use Rattle.guest_specs.specs.Inputs.{AreInputs}
-use Rattle.guest_specs.specs.Limits.{least_entries, most_blocks, most_console, most_entries, most_spaces}
+use Rattle.guest_settings.specs.declared.guests.GuestSpec.{GuestSpec}
+use Rattle.guest_settings.specs.Inputs.{AreInputs}
+use Rattle.guest_settings.specs.Limits.{least_entries, most_blocks, most_console, most_entries, most_spaces}
 
 -- a guest that is within the limits, and whose image fits
 pub record IsBootable (guest : GuestSpec) : Type 0 where

@@ -193,7 +193,7 @@ abbrev pub word_at : Reading → ℕ → ℕ
 word_at reading place = reading place 4 % 2 ^ 32
 
 -- one instruction, in this order: fetch, decode, checks of privilege, alignment, translation, access. pc is a
--- multiple of 4 from the start on (`RunKeepsStorable` of `machine_laws`): a jump to another target is an
+-- multiple of 4 from the start on (`RunKeepsStorable` of `run_laws`): a jump to another target is an
 -- exception at the jump, and sepc and handlers are multiples of 4
 unfoldable pub core : Mmu → Virtual → Outcome
 core through state =

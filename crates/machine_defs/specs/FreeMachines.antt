@@ -32,8 +32,8 @@ use Rattle.arch_defs.specs.Spaces.{Space, names}
 use Rattle.arch_defs.specs.Translation.{privilege_of, supervisor_of}
 use Rattle.arch_defs.specs.Traps.{is_virtual}
 use Rattle.arch_defs.specs.WalkedEntries.{entry_by_walk, folds}
-use Rattle.guest_specs.specs.declared.statuses.Status.{Status}
-use Rattle.guest_specs.specs.declared.statuses.Status.TheVariants.{Running, Waiting, Stopped}
+use Rattle.guest_settings.specs.declared.statuses.Status.{Status}
+use Rattle.guest_settings.specs.declared.statuses.Status.TheVariants.{Running, Waiting, Stopped}
 use Rattle.machine_defs.specs.FirstLeaves.{entry_walked, tag_of}
 use Rattle.machine_defs.specs.Machine.{Machine, Platform}
 use Rattle.machine_defs.specs.Runs.{left_by, run}

@@ -9,8 +9,8 @@ use Rattle.arch_defs.specs.declared.roots.GuestRoot.{GuestRoot}
 use Rattle.arch_defs.specs.Roots.{vmid_of}
 use Rattle.arch_defs.specs.Spaces.{front}
 use Rattle.arch_defs.specs.WalkedEntries.{entry_by_walk, folds}
-use Rattle.guest_specs.specs.declared.statuses.Status.{Status}
-use Rattle.guest_specs.specs.declared.statuses.Status.TheVariants.{Running, Waiting, Stopped}
+use Rattle.guest_settings.specs.declared.statuses.Status.{Status}
+use Rattle.guest_settings.specs.declared.statuses.Status.TheVariants.{Running, Waiting, Stopped}
 use Rattle.machine_defs.specs.Fills.{ready}
 use Rattle.machine_defs.specs.FreeMachines.{is_named}
 use Rattle.machine_defs.specs.Machine.{Ended, Machine, Tried, WaitsForGood}

@@ -18,9 +18,9 @@ use Rattle.arch_defs.specs.Traps.{entered_by_trap, target}
 use Rattle.arch_defs.specs.Waits.{wake_moment}
 use Rattle.machine_defs.specs.declared.events.Event.{Event}
 use Rattle.machine_defs.specs.declared.events.Event.TheVariants as event
-use Rattle.guest_specs.specs.declared.guests.GuestSpec.{GuestSpec}
-use Rattle.guest_specs.specs.declared.statuses.Status.{Status}
-use Rattle.guest_specs.specs.declared.statuses.Status.TheVariants as status
+use Rattle.guest_settings.specs.declared.guests.GuestSpec.{GuestSpec}
+use Rattle.guest_settings.specs.declared.statuses.Status.{Status}
+use Rattle.guest_settings.specs.declared.statuses.Status.TheVariants as status
 
 -- a machine without its RAM and its spaces: registers with the first-stage translations, clock with its
 -- timer, console with its unread inputs, count of steps, and status. The execution environment is part of it

@@ -1,7 +1,7 @@
 -- The section of a guest in the report.
 use Rattle.std.specs.Prelude.{ℕ, List}
-use Rattle.guest_specs.specs.declared.guests.GuestSpec.{GuestSpec}
-use Rattle.guest_specs.specs.Sections.{section_text}
+use Rattle.guest_settings.specs.declared.guests.GuestSpec.{GuestSpec}
+use Rattle.guest_settings.specs.Sections.{section_text}
 use Rattle.machine_defs.specs.Machine.{Machine, start}
 use Rattle.machine_defs.specs.Runs.{run}
 

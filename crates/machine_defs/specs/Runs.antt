@@ -2,8 +2,8 @@
 use Rattle.std.specs.Prelude.{ℕ, zero, suc, ◌+◌, List, [], ◌∷◌, ◌++◌, Bool, true, false, not, count_by, sum_by}
 use Rattle.machine_defs.specs.declared.events.Event.{Event}
 use Rattle.machine_defs.specs.declared.events.Event.TheVariants.{Plain, Trap, System}
-use Rattle.guest_specs.specs.declared.statuses.Status.{Status}
-use Rattle.guest_specs.specs.declared.statuses.Status.TheVariants as status
+use Rattle.guest_settings.specs.declared.statuses.Status.{Status}
+use Rattle.guest_settings.specs.declared.statuses.Status.TheVariants as status
 use Rattle.machine_defs.specs.Fills.{after_fills, most_fills, ready}
 use Rattle.machine_defs.specs.Machine.{Machine, Tried, Ended, WaitsForGood}
 use Rattle.machine_defs.specs.Tries.{try}

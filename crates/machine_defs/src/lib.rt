@@ -4,4 +4,4 @@
 mod events;
 
 pub use events::Event;
-pub use guest_specs::{Bytes, GuestSpec, Inputs, Name, Status};
+pub use guest_settings::{Bytes, GuestSpec, Inputs, Name, Status};

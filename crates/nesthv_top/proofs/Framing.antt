@@ -2,7 +2,7 @@
 use Rattle.std.proofs.Common.{◌≡◌, ℕ, zero, suc, ◌+◌, ◌<◌, ◌≤◌, List, [], ◌∷◌, length, take, get_or, ap, ◌∙◌, subst, arith, add-one}
 use Rattle.std.proofs.lemmas.List.{take_all}
 use Rattle.frame_split.specs.Shares.{frames_of_all}
-use Rattle.guest_specs.specs.Needs.{frames_needed}
+use Rattle.guest_settings.specs.Needs.{frames_needed}
 use Rattle.guest_turns.specs.Sources.{need_of_source, needs_of_sources}
 use Rattle.run_config.specs.declared.guests.GuestSettings.{GuestSettings}
 use Rattle.nesthv_top.specs.declared.ends.GuestFiles.{GuestFiles}

@@ -5,7 +5,7 @@ use Rattle.std.proofs.lemmas.Bool.{le-leb, lt-leb}
 use Rattle.std.proofs.lemmas.List.{append-nil, map-append, take_all, take_more}
 use Rattle.std.proofs.lemmas.List.Elements.{All-nil, All-cons, All-head, All-tail}
 use Rattle.guest_save.specs.Deciding.{is_saved}
-use Rattle.guest_specs.specs.Inputs.{AreInputs}
+use Rattle.guest_settings.specs.Inputs.{AreInputs}
 use Rattle.machine_defs.specs.Bootable.{IsBootable}
 use Rattle.guest_turns.specs.Sources.{IsBootableSource}
 use Rattle.outside.specs.Asks.{Ask}

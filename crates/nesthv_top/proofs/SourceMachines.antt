@@ -8,9 +8,9 @@ use Rattle.guest_turns.specs.declared.sources.Source.TheVariants.{Fresh, Kept}
 use Rattle.guest_turns.specs.Sources.{IsBootableSource, machine_of_source, machines_of_sources, need_of_source}
 use Rattle.guest_turns.proofs.Savables.{savable}
 use Rattle.machine_defs.specs.Runs.{run}
-use Rattle.machine_laws.specs.Caching.{GuestsFirstFresh, GuestsUseFresh, RunsAreArchitectural}
-use Rattle.machine_laws.specs.Keeping.{RunKeepsOrderly}
-use Rattle.machine_laws.specs.Laws.{FillsSuffice}
+use Rattle.cache_laws.specs.Caching.{GuestsFirstFresh, GuestsUseFresh, RunsAreArchitectural}
+use Rattle.fill_laws.specs.Keeping.{RunKeepsOrderly}
+use Rattle.fill_laws.specs.Laws.{FillsSuffice}
 use Rattle.nesthv_top.specs.Plans.{AllRunAsWritten, FirstFreshFrom, UsesFreshFrom}
 use Rattle.nesthv_top.specs.Seen.{plan_with}
 

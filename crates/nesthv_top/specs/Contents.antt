@@ -4,7 +4,7 @@ use Rattle.std.specs.Prelude.{ℕ, ◌+◌, ◌*◌, List, [], map, unwrap_or}
 use Rattle.arch_defs.specs.Memory.{block_size}
 use Rattle.command_line.specs.Commands.{FileCommand, Run, Replay, Check, Save}
 use Rattle.guest_save.specs.Saves.{SavedMachine, saved_machine_in}
-use Rattle.guest_specs.specs.declared.guests.GuestSpec.{GuestSpec}
+use Rattle.guest_settings.specs.declared.guests.GuestSpec.{GuestSpec}
 use Rattle.guest_turns.specs.declared.sources.Source.{Source}
 use Rattle.guest_turns.specs.declared.sources.Source.TheVariants as source
 use Rattle.outside.specs.Files.{Files, read_of}

@@ -5,7 +5,7 @@ use Rattle.arch_defs.specs.Frames.{within}
 use Rattle.arch_defs.specs.Layouts.{Layout}
 use Rattle.block_moves.specs.Moves.{with_block, without_blocks}
 use Rattle.frame_split.specs.Shares.{IsSplit, blocks_of_all, frames_with}
-use Rattle.guest_specs.specs.declared.needs.Need.{Need}
+use Rattle.guest_settings.specs.declared.needs.Need.{Need}
 use Rattle.guest_turns.specs.Hosted.{Hosted, is_set, lowest, part_at, with_free}
 use Rattle.guest_turns.specs.TurnLists.{updated}
 

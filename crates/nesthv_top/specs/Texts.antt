@@ -1,6 +1,6 @@
 -- What a command finds, and what it writes.
 use Rattle.std.specs.Prelude.{ℕ, List, [], ◌∷◌, ◌++◌, length, codes, decimal}
-use Rattle.guest_specs.specs.Needs.{frames_needed}
+use Rattle.guest_settings.specs.Needs.{frames_needed}
 use Rattle.command_line.specs.Commands.{Command, FileCommand, OnFiles, Run, Replay, Check, Save, Work}
 use Rattle.guest_save.specs.Forms.{form}
 use Rattle.guest_save.specs.Saves.{saved_form}

@@ -1,10 +1,10 @@
 -- What `work` writes of the guests that a seed and a size give.
 use Rattle.std.specs.Prelude.{ℕ, ◌*◌, List, ◌++◌, length, codes, decimal}
 use Rattle.std.specs.List.{flat_map, sum}
-use Rattle.guest_specs.specs.declared.guests.GuestSpec.{GuestSpec}
-use Rattle.guest_specs.specs.declared.statuses.Status.{Status}
+use Rattle.guest_settings.specs.declared.guests.GuestSpec.{GuestSpec}
+use Rattle.guest_settings.specs.declared.statuses.Status.{Status}
 use Rattle.machine_defs.specs.Machine.{Machine, start}
-use Rattle.guest_specs.specs.Sections.{header}
+use Rattle.guest_settings.specs.Sections.{header}
 use Rattle.machine_defs.specs.Runs.{run}
 use Rattle.work_images.specs.Guests.{guests}
 

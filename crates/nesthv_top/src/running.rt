@@ -20,10 +20,11 @@ ghost use Rattle.nesthv_top.specs.Written.{Writes};
 ghost use Rattle.outside.specs.Texts.{PutsText};
 
 use crate::ends::{Job, RunEnd};
+use cache_laws::{runs_are_architectural, runs_are_fresh};
+use fill_laws::{fills_suffice, machines_stay_orderly};
 use guest_save::saved_machines_go_on;
-use guest_specs::MOST_GUESTS;
+use guest_settings::MOST_GUESTS;
 use guest_turns::{Host, MoveFault, Moves, Source};
-use machine_laws::{fills_suffice, machines_stay_orderly, runs_are_architectural, runs_are_fresh};
 use no_memory::NoMemory;
 use outside::{Sink, SinkFault};
 use report::{GuestLine, section};

@@ -11,4 +11,3 @@ pub record PutsText {Y A E : Type 0} (O : sinks.Ghosts Y) (result : Result A E) 
   pub cause : OnErr result (Rose (O.faults old) (O.faults new))
   pub count : O.faults old ≤ O.faults new
   pub stays : O.made_with new ≡ O.made_with old
-

@@ -1,7 +1,7 @@
 -- The pieces of a section, each of which is one put.
 use Rattle.std.specs.Prelude.{ℕ, List, [], ◌∷◌, ◌++◌, length, codes}
-use Rattle.guest_specs.specs.declared.statuses.Status.{Status}
-use Rattle.guest_specs.specs.Sections.{header}
+use Rattle.guest_settings.specs.declared.statuses.Status.{Status}
+use Rattle.guest_settings.specs.Sections.{header}
 
 -- a piece, unless it is empty
 abbrev pub unless_empty : List ℕ → List (List ℕ)

@@ -1,10 +1,10 @@
 // The line that heads a section.
 
 ghost use Rattle.std.specs.Prelude.{◌≡◌, ◌≤◌, length};
-ghost use Rattle.guest_specs.specs.Sections.{header, status_word};
+ghost use Rattle.guest_settings.specs.Sections.{header, status_word};
 
 use arrayvec::ArrayVec;
-use guest_specs::Status;
+use guest_settings::Status;
 use itoa::Buffer;
 
 fn word(status: Status) -> &'static [u8]
@@ -19,7 +19,7 @@ fn word(status: Status) -> &'static [u8]
 
 /// The line that heads a section, without its line feed. At most 100 bytes: a name of 32, a word of 7, two
 /// numbers of 20 digits, and 21 bytes between them.
-#[tactic(auto, unfolding(guest_specs::specs::Sections::header))]
+#[tactic(auto, unfolding(guest_settings::specs::Sections::header))]
 pub fn header(name: &[u8], status: Status, steps: u64, bytes: u64) -> ArrayVec<u8, 128>
     requires { length name.now ≤ 32 }
     ensures text { result.items ≡ header name.now status steps bytes }

@@ -1,13 +1,13 @@
 // The section of a guest, put piece by piece.
 
 ghost use Rattle.std.specs.Prelude.{◌≡◌, ◌≤◌, ◌∷◌, ◌++◌, length, is_ok, OnOk, OnErr};
-ghost use Rattle.guest_specs.specs.Sections.{section_text};
+ghost use Rattle.guest_settings.specs.Sections.{section_text};
 ghost use Rattle.outside.specs.Faults.{Rose};
 ghost use Rattle.outside.specs.Pieces.{Appends, Puts};
 ghost use Rattle.report.specs.Puts.{unless_empty, section_pieces};
 
 use crate::headers::header;
-use guest_specs::{Name, Status};
+use guest_settings::{Name, Status};
 use outside::{Sink, SinkFault};
 
 /// What a section's header names.

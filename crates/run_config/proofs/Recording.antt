@@ -7,7 +7,7 @@ use Rattle.std.proofs.lemmas.List.{get_or-drop, get_or-take, length-drop, length
 use Rattle.std.proofs.lemmas.List.Elements.{All-nil, All-cons, All-get_or}
 use Rattle.std.proofs.lemmas.List.FromFn.{get_or-range_with_len, length-map-range_with_len, length-range_with_len}
 use Rattle.std.specs.List.{All, find, range_with_len, slice_index}
-use Rattle.guest_specs.specs.Inputs.{AreInputs}
+use Rattle.guest_settings.specs.Inputs.{AreInputs}
 use Rattle.run_config.specs.Configurations.{AreByteInputs}
 use Rattle.run_config.specs.Guests.{rise_from}
 use Rattle.run_config.specs.Records.{bad_record, record_byte, is_bad, moment_at, moment_before, record_at, record_count, records_of}

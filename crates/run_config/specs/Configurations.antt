@@ -1,8 +1,8 @@
 -- What a configuration says, and within which limits.
 use Rattle.std.specs.Prelude.{ℕ, ◌<◌, ◌≤◌, ◌^◌, List, length}
 use Rattle.std.specs.List.{All}
-use Rattle.guest_specs.specs.Inputs.{AreInputs}
-use Rattle.guest_specs.specs.Limits.{least_entries, most_blocks, most_console, most_entries, most_guests, most_spaces}
+use Rattle.guest_settings.specs.Inputs.{AreInputs}
+use Rattle.guest_settings.specs.Limits.{least_entries, most_blocks, most_console, most_entries, most_guests, most_spaces}
 use Rattle.run_config.specs.declared.guests.FreshGuest.{FreshGuest}
 use Rattle.run_config.specs.declared.guests.GuestSettings.{GuestSettings}
 use Rattle.run_config.specs.declared.guests.InputSource.{InputSource}

@@ -2,7 +2,7 @@
 use Rattle.std.specs.Prelude.{ℕ, ◌^◌, ◌-◌, nat_eq, nat_le, Bool, true, false, not, ◌&&◌, List, [], ◌∷◌, ◌++◌, length, map, bytes_eq, Option, Some, None, is_some, unwrap_or, option_map}
 use Rattle.std.specs.List.{list_any}
 use Rattle.toml.specs.Data.{Data, Members, as_array}
-use Rattle.guest_specs.specs.Limits.{most_inputs}
+use Rattle.guest_settings.specs.Limits.{most_inputs}
 use Rattle.run_config.specs.declared.keys.ConfigKey.TheVariants as key
 use Rattle.run_config.specs.declared.faults.ConfigFault.{ConfigFault}
 use Rattle.run_config.specs.Faults as fault

@@ -2,7 +2,7 @@
 use Rattle.std.specs.Prelude.{ℕ, zero, suc, ◌*◌, ◌^◌, nat_eq, nat_le, nat_lt, Bool, ◌||◌, List, length, map, take, drop, find, Option}
 use Rattle.std.specs.Int.{div_ceil, from_le_bytes, w64}
 use Rattle.std.specs.List.{range_with_len, slice_index}
-use Rattle.guest_specs.specs.Limits.{most_inputs}
+use Rattle.guest_settings.specs.Limits.{most_inputs}
 
 -- how many records the bytes are: one for each nine of them, and one for what is left at the end
 unfoldable pub record_count : List ℕ → ℕ

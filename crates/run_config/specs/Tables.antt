@@ -1,6 +1,6 @@
 -- The tables of the configuration: which keys there are, and what the value of each may be.
 use Rattle.std.specs.Prelude.{ℕ, Bool, true, false, List, [], ◌∷◌, ◌++◌, map}
-use Rattle.guest_specs.specs.Limits.{least_entries, most_blocks, most_console, most_entries, most_spaces}
+use Rattle.guest_settings.specs.Limits.{least_entries, most_blocks, most_console, most_entries, most_spaces}
 use Rattle.run_config.specs.declared.formats.Format.{Format}
 use Rattle.run_config.specs.declared.formats.Format.TheVariants.{One, Two}
 use Rattle.run_config.specs.declared.keys.ConfigKey.{ConfigKey}

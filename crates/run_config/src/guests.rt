@@ -2,7 +2,7 @@
 
 ghost use Rattle.std.specs.Prelude.{◌≡◌};
 
-use guest_specs::{Inputs, Name};
+use guest_settings::{Inputs, Name};
 use std::marker::Model;
 
 /// The name of a file, as text.

@@ -12,7 +12,7 @@ use crate::guests::{FileName, InputSource};
 use crate::keys::ConfigKey;
 use crate::pairs::pair_within;
 use crate::values::{text_within, value_at};
-use guest_specs::{Inputs, MOST_INPUTS};
+use guest_settings::{Inputs, MOST_INPUTS};
 use std::alloc::{AllocError, Global};
 use toml::{Table, Value};
 

@@ -5,7 +5,7 @@ ghost use Rattle.run_config.specs.declared.input_records.InputEnd.TheVariants.{N
 ghost use Rattle.run_config.specs.Configurations.{AreByteInputs};
 ghost use Rattle.run_config.specs.Records.{bad_record, record_byte, is_bad, moment_at, moment_before, record_at, records_of, record_count};
 
-use guest_specs::MOST_INPUTS;
+use guest_settings::MOST_INPUTS;
 use std::alloc::{AllocError, Global};
 use thiserror::Error;
 

@@ -24,7 +24,7 @@ use crate::kinds::number_or;
 use crate::schedules::{schedule_at, turns_of};
 use crate::settings::settings_of;
 use crate::values::{has_only, natural, value_at};
-use guest_specs::MOST_GUESTS;
+use guest_settings::MOST_GUESTS;
 use std::alloc::{AllocError, Global};
 use toml::{Table, Value};
 

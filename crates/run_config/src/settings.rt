@@ -20,9 +20,7 @@ use crate::input_pairs::input_at;
 use crate::keys::ConfigKey;
 use crate::kinds::{file_name_in, number_in, number_or, text_in};
 use crate::values::{has_only, is_name, value_at};
-use guest_specs::{
-    LEAST_ENTRIES, MOST_BLOCKS, MOST_CONSOLE, MOST_ENTRIES, MOST_SPACES, Name,
-};
+use guest_settings::{LEAST_ENTRIES, MOST_BLOCKS, MOST_CONSOLE, MOST_ENTRIES, MOST_SPACES, Name};
 use std::alloc::{AllocError, Global};
 use toml::{Table, Value};
 
@@ -107,8 +105,20 @@ fn settings_in<'a>(values: GuestValues<'a>, guest: u32) -> Result<GuestRef<'a>, 
 {
     let name = text_in(values.name, Some(guest), ConfigKey::Name)?;
     let image = file_name_in(values.image, Some(guest), ConfigKey::Image)?;
-    let blocks = number_in(values.blocks, Some(guest), ConfigKey::Blocks, 1, MOST_BLOCKS as u64)?;
-    let spaces = number_in(values.spaces, Some(guest), ConfigKey::Spaces, 1, MOST_SPACES as u64)?;
+    let blocks = number_in(
+        values.blocks,
+        Some(guest),
+        ConfigKey::Blocks,
+        1,
+        MOST_BLOCKS as u64,
+    )?;
+    let spaces = number_in(
+        values.spaces,
+        Some(guest),
+        ConfigKey::Spaces,
+        1,
+        MOST_SPACES as u64,
+    )?;
     let entries = number_in(
         values.entries,
         Some(guest),

@@ -8,7 +8,7 @@ use Rattle.std.proofs.lemmas.List.Elements.{All-append, All-cons}
 use Rattle.form_pool.specs.Forms.{Forms, no_forms}
 use Rattle.machine_defs.specs.Machine.{Machine}
 use Rattle.machine_defs.specs.Runs.{run}
-use Rattle.machine_laws.proofs.Running.{runs_compose}
+use Rattle.fill_laws.proofs.Running.{runs_compose}
 use Rattle.run_positions.specs.declared.kept.Kept.{Kept}
 use Rattle.run_positions.specs.declared.runners.Runner as runners
 use Rattle.run_positions.specs.declared.positions.Positions.{Positions}

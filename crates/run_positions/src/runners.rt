@@ -1,7 +1,7 @@
 // What runs a machine.
 
 ghost use Rattle.std.specs.Prelude.{◌≡◌, ◌+◌, ◌^◌, ◌≤◌, ℕ, List, [], slice_index, OnErr, OnOk};
-ghost use Rattle.guest_specs.specs.declared.statuses.Status.{Status};
+ghost use Rattle.guest_settings.specs.declared.statuses.Status.{Status};
 ghost use Rattle.machine_defs.specs.Machine.{Machine};
 ghost use Rattle.machine_defs.specs.Runs.{run};
 ghost use Rattle.run_positions.specs.Looks.{offset_of};

@@ -22,7 +22,7 @@ use Rattle.arch_defs.specs.CsrNames.{hypervisor_register, read_only_register, re
 use Rattle.op_defs.specs.declared.ops.CsrOp.{CsrOp}
 use Rattle.machine_defs.specs.Outcomes.{Outcome}
 use Rattle.machine_defs.specs.Privileges.{combined, csr_accessed, csr_changed, csr_shown, value_or_zero}
-use Rattle.machine_laws.specs.InstructionEnds.{OutcomeHas}
+use Rattle.instruction_laws.specs.InstructionEnds.{OutcomeHas}
 use Rattle.rv64_hart.specs.Endings.{HasSameTranslation, Unless}
 
 -- the registers of which a context and a privilege are made

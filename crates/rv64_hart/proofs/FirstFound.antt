@@ -36,7 +36,7 @@ use Rattle.rv64_decode.specs.Common.{common_op_of}
 use Rattle.machine_defs.specs.Answers.{answer_of}
 use Rattle.machine_defs.specs.Core.{At, Fails, Located, accessed_data, called_from, core, decoded, event_of, fetch_place, found_with, instruction, kind_of, word_at}
 use Rattle.machine_defs.specs.FirstLeaves.{entries_of, found_at, found_by_effect, found_by_op, found_for, leaf_if, leaf_under, leaves_found, unless_known}
-use Rattle.machine_laws.specs.MissedPlaces.{wanted_by, wanted_of}
+use Rattle.instruction_laws.specs.MissedPlaces.{wanted_by, wanted_of}
 use Rattle.translation_buffer.specs.Places.{passed_by}
 use Rattle.rv64_hart.specs.Endings.{attempt_at, attempt_of_effect, attempt_of_word, attempt_with}
 use Rattle.rv64_hart.specs.MachineMemory.{found_on, found_over, mmu_on, reading_of_memory}

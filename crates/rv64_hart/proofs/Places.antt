@@ -11,7 +11,7 @@ use Rattle.arch_defs.specs.Widths.{bytes_in}
 use Rattle.op_defs.specs.Table.{op_of}
 use Rattle.machine_defs.specs.Answers.{answer_of}
 use Rattle.machine_defs.specs.Core.{Located, Faults, Misses, At, Fails, word_at}
-use Rattle.machine_laws.specs.MissedPlaces.{wanted_at, wanted_of}
+use Rattle.instruction_laws.specs.MissedPlaces.{wanted_at, wanted_of}
 use Rattle.translation_buffer.specs.Places.{place_on_hart}
 use Rattle.translation_buffer.proofs.Hits.{hit_is_place, hits_find_nothing}
 use Rattle.rv64_hart.specs.Endings.{IsAnswered}

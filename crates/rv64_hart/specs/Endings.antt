@@ -49,13 +49,13 @@ attempt_of_effect s memory word effect =
 abbrev pub attempt_at : List FirstEntry → HartState → List ℕ → ℕ → Attempt
 attempt_at found s memory word =
     let after = caching_found (caching_found s found)
-        (found_by_op s.tag (mmu_on s memory) s.virt (op_of word)) in
+    (found_by_op s.tag (mmu_on s memory) s.virt (op_of word)) in
     attempt_of after memory (instruction (mmu_on s memory) s.virt word)
 
 abbrev pub attempt_with : List FirstEntry → HartState → List ℕ → ℕ → Effect → Attempt
 attempt_with found s memory word effect =
     let after = caching_found (caching_found s found)
-        (found_by_effect s.tag (mmu_on s memory) s.virt effect) in
+    (found_by_effect s.tag (mmu_on s memory) s.virt effect) in
     attempt_of after memory (executed (mmu_on s memory) s.virt word effect)
 
 -- what a step asks for, by how its instruction ended, the trap that is told apart, the event that the step is

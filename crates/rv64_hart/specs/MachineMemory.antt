@@ -10,7 +10,7 @@ use Rattle.arch_defs.specs.SecondStage.{second_by_walk}
 use Rattle.op_defs.specs.declared.ops.DataAccess.{DataAccess}
 use Rattle.machine_defs.specs.Core.{Located, accessed, fetch_place}
 use Rattle.machine_defs.specs.FirstLeaves.{found_for, known_of, leaves_found}
-use Rattle.machine_laws.specs.MissedPlaces.{wanted_at}
+use Rattle.instruction_laws.specs.MissedPlaces.{wanted_at}
 
 -- what memory gives at a physical address
 abbrev pub reading_of_memory : List ℕ → Reading

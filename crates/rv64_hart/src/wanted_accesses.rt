@@ -2,7 +2,7 @@
 
 ghost use Rattle.std.specs.Prelude.{◌≡◌};
 ghost use Rattle.op_defs.specs.Table.{op_of};
-ghost use Rattle.machine_laws.specs.MissedPlaces.{wanted_by, wanted_of};
+ghost use Rattle.instruction_laws.specs.MissedPlaces.{wanted_by, wanted_of};
 ghost use Rattle.rv64_hart.specs.MachineMemory.{wanted_next};
 
 use crate::accesses::word_at;

@@ -3,7 +3,7 @@ use Rattle.std.proofs.Common.{ℕ, ◌+◌, ◌*◌, ◌≤◌, arith}
 use Rattle.std.proofs.lemmas.Nat.{mul-le}
 use Rattle.arch_defs.specs.Frames.{Apart, Frames, Within, in_blocks, within}
 use Rattle.arch_defs.specs.Layouts.{Layout, NamesEachOnce, host_frames, in_tables, root_frames, table_frames}
-use Rattle.guest_specs.specs.Needs.{tables_for}
+use Rattle.guest_settings.specs.Needs.{tables_for}
 use Rattle.arch_defs.proofs.FrameSets.{apart_sym, apart_within, joined_within, left_within, range_within, ranges_apart, right_within, within_apart}
 use Rattle.arch_defs.proofs.Naming.{apart_joined}
 use Rattle.shadow_pool.specs.Laws.{HostIsApartFromSpaces, PoolLiesWithin, RamIsApartFromSpaces}

@@ -11,8 +11,8 @@ use Rattle.arch_defs.specs.Roots.{is_root}
 use Rattle.arch_defs.specs.Spaces.{Space, entered, fenced, fenced_space}
 use Rattle.arch_defs.proofs.SameRoots.{root_is}
 use Rattle.machine_defs.specs.Fills.{filled_front}
-use Rattle.machine_laws.specs.FrontSpaces.{FrontIs}
-use Rattle.machine_laws.proofs.FrontSpaces.{in_front}
+use Rattle.instruction_laws.specs.FrontSpaces.{FrontIs}
+use Rattle.instruction_laws.proofs.FrontSpaces.{in_front}
 use Rattle.shadow_pool.specs.declared.slots.Slot.{Slot}
 use Rattle.shadow_pool.specs.Slots.{HasSpaceFor, filled_for, has_key, key_is, space_if, space_of, spaces_in}
 use Rattle.shadow_pool.proofs.Keys.{not_none}

@@ -6,7 +6,7 @@ use Rattle.std.proofs.lemmas.List.{get_or_default, get_or-set_same, get_or-set_o
 use Rattle.std.proofs.lemmas.List.Elements.{All-set}
 use Rattle.arch_defs.specs.Frames.{Apart, Only, Within, within}
 use Rattle.arch_defs.specs.Layouts.{Layout, space_frames}
-use Rattle.guest_specs.specs.Needs.{tables_for}
+use Rattle.guest_settings.specs.Needs.{tables_for}
 use Rattle.arch_defs.proofs.FrameSets.{joined_within, kept, left_within, only_more, range_within, right_within}
 use Rattle.shadow_space.specs.Shadows.{KeepsSpace, Tidy, own_frames}
 use Rattle.shadow_space.proofs.Partings.{spaces_apart}

@@ -12,7 +12,7 @@ use Rattle.arch_defs.specs.Roots.{folded_mode}
 use Rattle.arch_defs.specs.SecondStage.{second_under, second_walk}
 use Rattle.arch_defs.specs.Spaces.{Space, entered, front}
 use Rattle.arch_defs.specs.Walk.{guest_bits}
-use Rattle.machine_laws.specs.FrontSpaces.{FrontIs}
+use Rattle.instruction_laws.specs.FrontSpaces.{FrontIs}
 use Rattle.arch_defs.specs.CachedEntries.{device_by_entries, second_by}
 use Rattle.shadow_pool.specs.Slots.{Pooled, TidyPool, front_root, pool_frames, room_of, spaces_of, table_frames_for}
 use Rattle.shadow_space.specs.Trees.{folded_shape}

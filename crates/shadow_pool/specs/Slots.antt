@@ -8,7 +8,7 @@ use Rattle.arch_defs.specs.declared.roots.GuestRoot.TheVariants as guest_root
 use Rattle.arch_defs.specs.CachedEntries.{filled}
 use Rattle.arch_defs.specs.Frames.{Frames, LieIn, Only, joined, within}
 use Rattle.arch_defs.specs.Layouts.{Layout, NamesEachOnce, no_part, space_frames}
-use Rattle.guest_specs.specs.Needs.{tables_for}
+use Rattle.guest_settings.specs.Needs.{tables_for}
 use Rattle.arch_defs.specs.Roots.{is_root}
 use Rattle.arch_defs.specs.Spaces.{Space, is_for}
 use Rattle.shadow_space.specs.Folding.{Folded}

@@ -7,7 +7,7 @@ use Rattle.std.proofs.lemmas.List.Sums.{get_or-le-sum_by, sum_by-cons, sum_by-se
 use Rattle.shadow_space.specs.declared.frames.TableFrames.{TableFrames}
 use Rattle.shadow_space.specs.Held.{IsKept, closed, fewer, more, next_free, opened}
 use Rattle.shadow_space.specs.Trees.{most_tables}
-use Rattle.guest_specs.specs.Limits.{most_entries}
+use Rattle.guest_settings.specs.Limits.{most_entries}
 use Rattle.table_words.proofs.Words.{same_or}
 
 used_zero : (n : ℕ) → n ≡ 0 → ◌≡◌ {A = ℕ} (cond (not (n == 0)) 1 0) 0

@@ -5,7 +5,7 @@ use Rattle.arch_defs.specs.Frames.{Apart, Frames, Within, in_blocks, joined, wit
 use Rattle.arch_defs.specs.Layouts.{Layout, NamesEachOnce, in_tables, root_frames, space_frames, table_frames}
 use Rattle.arch_defs.proofs.FrameSets.{apart_sym, apart_within, joined_within, left_within, range_within, ranges_apart, right_within, within_apart}
 use Rattle.arch_defs.proofs.Naming.{apart_joined}
-use Rattle.guest_specs.specs.Needs.{tables_for}
+use Rattle.guest_settings.specs.Needs.{tables_for}
 use Rattle.shadow_space.specs.Laws.{HostFramesAreApart, RamIsApart, SpacesAreApart, SpacesLieWithin, UntouchedAreZeros}
 use Rattle.shadow_space.proofs.Clearing.{zeros_at}
 use Rattle.shadow_space.proofs.Tidying.{tables_end}

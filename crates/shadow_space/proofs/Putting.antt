@@ -15,7 +15,7 @@ use Rattle.shadow_space.specs.declared.writing.Tables.{Tables}
 use Rattle.shadow_space.specs.Held.{Holds, HoldsList, KeepsTable, held_in, number_of}
 use Rattle.shadow_space.specs.Leaves.{leaf_word, leaves}
 use Rattle.shadow_space.specs.Trees.{HasTables, IsOwn, frames_of, most_tables, slots, top}
-use Rattle.guest_specs.specs.Limits.{most_entries}
+use Rattle.guest_settings.specs.Limits.{most_entries}
 use Rattle.shadow_space.specs.Ways.{IsUnderWay, UnderWay, number_with}
 use Rattle.shadow_space.proofs.Adding.{low_slots}
 use Rattle.shadow_space.proofs.Counting.{counted_inside}

@@ -18,14 +18,14 @@ use Rattle.shadow_space.specs.declared.cached.CachedTable.{CachedTable}
 use Rattle.shadow_space.specs.declared.writing.Tables.{Tables}
 use Rattle.arch_defs.specs.CachedEntries.{CanFill, HasOtherPage, entry_at, guest_page_bits, is_device}
 use Rattle.shadow_space.specs.Folding.{LastIs, LieWithin, leaf_end}
-use Rattle.guest_specs.specs.Needs.{tables_for}
+use Rattle.guest_settings.specs.Needs.{tables_for}
 use Rattle.shadow_space.specs.Laws.{TidyIsFolded, TidyLasts}
 use Rattle.shadow_space.specs.declared.frames.TableFrames.{TableFrames}
 use Rattle.shadow_space.specs.Held.{HoldsList, IsKept, Stands, held_in, number_of, Holds, KeepsTable}
 use Rattle.shadow_space.specs.Leaves.{frame_of_ram, leaf_word_if, leaf_parts, leaf_word, leaves}
 use Rattle.shadow_space.specs.Shadows.{AreZeros, HasSmallNumbers, IsShadow, IsTidy, Shadow, Tidy, own_frames, root_of, tables_in, shadow_of}
 use Rattle.shadow_space.specs.Trees.{HasTables, IsOwn, RootIsApart, folded_shape, frames_of, top}
-use Rattle.guest_specs.specs.Limits.{most_entries}
+use Rattle.guest_settings.specs.Limits.{most_entries}
 use Rattle.table_words.specs.Words.{doubleword_at}
 use Rattle.table_words.proofs.Words.{word_kept}
 use Rattle.shadow_space.proofs.Starting.{zeros_stand}

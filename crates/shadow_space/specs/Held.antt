@@ -9,7 +9,7 @@ use Rattle.shadow_space.specs.declared.writing.Tables.{Tables}
 use Rattle.arch_defs.specs.CachedEntries.{CanFill, HasOtherPage}
 use Rattle.shadow_space.specs.Leaves.{leaves}
 use Rattle.shadow_space.specs.Trees.{Free, HasTables, IsTree, Says, Tree, frames_of, most_tables, prefix, top}
-use Rattle.guest_specs.specs.Limits.{most_entries}
+use Rattle.guest_settings.specs.Limits.{most_entries}
 use Rattle.table_words.specs.Entries.{named_frame, pointer_word}
 use Rattle.table_words.specs.Words.{doubleword_at, with_word}
 

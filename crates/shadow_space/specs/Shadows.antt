@@ -4,13 +4,13 @@ use Rattle.std.specs.List.{All, AllPairs}
 use Rattle.arch_defs.specs.declared.cached.Entry.{Entry}
 use Rattle.arch_defs.specs.Frames.{Frames, LieIn, Only}
 use Rattle.arch_defs.specs.Layouts.{Layout, NamesEachOnce, space_frames}
-use Rattle.guest_specs.specs.Needs.{tables_for}
+use Rattle.guest_settings.specs.Needs.{tables_for}
 use Rattle.arch_defs.specs.CachedEntries.{CanFill, HasOtherPage}
 use Rattle.shadow_space.specs.declared.cached.CachedTable.{CachedTable}
 use Rattle.shadow_space.specs.declared.frames.TableFrames.{TableFrames}
 use Rattle.shadow_space.specs.declared.writing.Tables.{Tables}
 use Rattle.shadow_space.specs.Held.{HoldsList}
-use Rattle.guest_specs.specs.Limits.{most_entries}
+use Rattle.guest_settings.specs.Limits.{most_entries}
 
 -- a space: the part of its guest, its number in it, at most how many entries it has, these, oldest first, and
 -- the frames of their tables

@@ -5,10 +5,10 @@ use Rattle.std.specs.Prelude.{ℕ, zero, suc, ◌≡◌, ◌+◌, ◌*◌, ◌/�
 use Rattle.arch_defs.specs.Frames.{Frames, LieIn, joined, within}
 use Rattle.arch_defs.specs.declared.walks.Shape.{Shape}
 use Rattle.arch_defs.specs.Roots.{folded_mode, guest_shape}
-use Rattle.guest_specs.specs.Needs.{tables_for}
+use Rattle.guest_settings.specs.Needs.{tables_for}
 use Rattle.shadow_space.specs.declared.writing.Tables.{Tables}
 use Rattle.table_words.specs.Entries.{pointer_word}
-use Rattle.guest_specs.specs.Limits.{most_entries}
+use Rattle.guest_settings.specs.Limits.{most_entries}
 
 -- all frames of these tables
 abbrev pub frames_of : Tables → Frames

@@ -7,7 +7,7 @@ use Rattle.shadow_space.specs.declared.writing.Tables.{Tables}
 use Rattle.shadow_space.specs.Held.{Held, IsKept, Stands, held_in, number_of}
 use Rattle.shadow_space.specs.Leaves.{leaves}
 use Rattle.shadow_space.specs.Trees.{HasTables, Table, prefix, top}
-use Rattle.guest_specs.specs.Limits.{most_entries}
+use Rattle.guest_settings.specs.Limits.{most_entries}
 
 -- the prefix of a page's table of a level: the root is for all pages
 abbrev pub table_prefix : ℕ → ℕ → ℕ

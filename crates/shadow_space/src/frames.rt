@@ -3,10 +3,10 @@
 ghost use Rattle.std.specs.Prelude.{◌≡◌, ℕ, ◌+◌, ◌-◌, ◌<◌, ◌≤◌, length, slice_index, slice_set};
 ghost use Rattle.shadow_space.specs.Held.{HasMovedUp, IsKept, closed, fewer, more, next_free, opened};
 ghost use Rattle.shadow_space.specs.Trees.{most_tables};
-ghost use Rattle.guest_specs.specs.Limits.{most_entries};
+ghost use Rattle.guest_settings.specs.Limits.{most_entries};
 
 use arch_defs::TABLES_PER_ENTRY;
-use guest_specs::MOST_ENTRIES;
+use guest_settings::MOST_ENTRIES;
 
 /// The most tables of a space below its root.
 pub const MOST_TABLES: usize = TABLES_PER_ENTRY as usize * MOST_ENTRIES;

@@ -11,7 +11,7 @@ mod spaces;
 mod writing;
 
 pub use arch_defs::{Entry, Part};
-pub use guest_specs::MOST_ENTRIES;
+pub use guest_settings::MOST_ENTRIES;
 pub use laws::{gives_entries, spaces_are_apart, tidy_is_folded, tidy_lasts, untouched_are_zeros};
 pub use phys_mem::PhysMem;
 pub use spaces::Space;

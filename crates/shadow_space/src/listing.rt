@@ -7,10 +7,10 @@ ghost use Rattle.arch_defs.specs.CachedEntries.{HasLevel, entry_at, holds};
 ghost use Rattle.arch_defs.specs.Spaces.{names_page};
 ghost use Rattle.arch_defs.specs.Walk.{most_level};
 ghost use Rattle.arch_defs.specs.TableEntries.{span};
-ghost use Rattle.guest_specs.specs.Limits.{most_entries};
+ghost use Rattle.guest_settings.specs.Limits.{most_entries};
 
-use guest_specs::MOST_ENTRIES;
 use arch_defs::Entry;
+use guest_settings::MOST_ENTRIES;
 use std::marker::Model;
 
 // What stands in a slot without an entry.
@@ -33,7 +33,7 @@ pub struct EntryList {
 impl Model for EntryList {
     ghost use Rattle.std.specs.Prelude.{◌≤◌, List, take};
     ghost use Rattle.arch_defs.specs.declared.cached.Entry.{Entry};
-    ghost use Rattle.guest_specs.specs.Limits.{most_entries};
+    ghost use Rattle.guest_settings.specs.Limits.{most_entries};
 
     ghost Value = { List Entry };
 

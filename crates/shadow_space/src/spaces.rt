@@ -9,7 +9,7 @@ ghost use Rattle.shadow_space.specs.Moves.{IsMovedPart, in_part};
 ghost use Rattle.shadow_space.specs.Reaching.{FreeAreZeros};
 ghost use Rattle.shadow_space.specs.Shadows.{AreZeros, HasSmallNumbers, KeepsSpace, Tidy, own_frames, root_of, tables_in};
 ghost use Rattle.shadow_space.specs.Trees.{top};
-ghost use Rattle.guest_specs.specs.Limits.{most_entries};
+ghost use Rattle.guest_settings.specs.Limits.{most_entries};
 ghost use Rattle.table_words.specs.Words.{changed};
 
 use crate::cached::CachedTable;

@@ -3,7 +3,7 @@
 
 ghost use Rattle.std.specs.Prelude.{◌≡◌, length, IfOk};
 
-use guest_specs::GuestSpec;
+use guest_settings::GuestSpec;
 use no_memory::NoMemory;
 use std::alloc::Global;
 use std::test::Fail;

@@ -2,7 +2,7 @@
 
 ghost use Rattle.std.specs.Prelude.{◌≡◌, IfOk};
 
-use guest_specs::{Name, Status};
+use guest_settings::{Name, Status};
 use no_memory::NoMemory;
 use outside::{CleanSink, ListSink, Sink, SinkFault};
 use report::{GuestLine, section};

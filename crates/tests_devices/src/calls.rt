@@ -1,7 +1,7 @@
 // Calls of the supervisor execution environment.
 
 ghost use Rattle.std.specs.Prelude.{◌≡◌, IfOk};
-ghost use Rattle.guest_specs.specs.Inputs.{AreInputs};
+ghost use Rattle.guest_settings.specs.Inputs.{AreInputs};
 
 use arch_defs::{Reg, Regs};
 use console_dev::{Console, NoMemory};

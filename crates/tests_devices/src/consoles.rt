@@ -1,7 +1,7 @@
 // A guest's console: the bytes that it puts, and the inputs that come to it.
 
 ghost use Rattle.std.specs.Prelude.{IfOk};
-ghost use Rattle.guest_specs.specs.Inputs.{AreInputs};
+ghost use Rattle.guest_settings.specs.Inputs.{AreInputs};
 
 use console_dev::Console;
 use no_memory::NoMemory;

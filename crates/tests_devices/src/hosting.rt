@@ -4,8 +4,8 @@
 ghost use Rattle.std.specs.Prelude.{◌≡◌, [], ◌∷◌, Some, true};
 ghost use Rattle.arch_defs.specs.FirstEntries.{HasGuestFrame};
 ghost use Rattle.arch_defs.specs.Layouts.{names_each_once};
-ghost use Rattle.machine_laws.specs.HostPlaces.{in_ram};
-ghost use Rattle.machine_laws.specs.Renaming.{ReservesWithin};
+ghost use Rattle.instruction_laws.specs.HostPlaces.{in_ram};
+ghost use Rattle.instruction_laws.specs.Renaming.{ReservesWithin};
 ghost use Rattle.world_switch.specs.Hosting.{loaded_in, root_at};
 
 use arch_defs::{

@@ -2,8 +2,8 @@
 // of the standard (Unprivileged ISA 20191213, 2 and 8).
 
 use crate::cases::{CASE, Case, DATA, End, START, holds};
-use sample_programs::places::At::X;
 use std::test::Fail;
+use test_programs::places::At::X;
 
 // Loads and stores.
 static ACCESSES: [Case; 7] = [

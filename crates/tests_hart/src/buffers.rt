@@ -11,11 +11,11 @@ use crate::cases::{
 };
 use arch_defs::{FirstEntry, GuestRoot, Mode, Tag, Virtual};
 use rv64_hart::{Hart, PhysMem, Tally, Why};
-use sample_programs::LineFault;
-use sample_programs::places::At::{Pc, X};
-use sample_programs::places::{HEDELEG, HGATP, MXR, SUM, VSATP, VSEPC, VSSTATUS, VSTVEC, value_at};
 use std::alloc::Global;
 use std::test::Fail;
+use test_programs::LineFault;
+use test_programs::places::At::{Pc, X};
+use test_programs::places::{HEDELEG, HGATP, MXR, SUM, VSATP, VSEPC, VSSTATUS, VSTVEC, value_at};
 
 const OTHER: u64 = 0x1122_3344_5566_7788;
 

@@ -4,9 +4,9 @@ ghost use Rattle.std.specs.Prelude.{◌≡◌, ◌⊎◌, ◌≤◌};
 
 use arch_defs::{Mode, Trap, Virtual};
 use rv64_hart::{Hart, PhysMem, Stop, Tally, Why};
-use sample_programs::places::{At, set_all, value_at};
-use sample_programs::{LineFault, words};
 use std::alloc::Global;
+use test_programs::places::{At, set_all, value_at};
+use test_programs::{LineFault, words};
 
 /// Where a program begins if its case does not say: at the start of memory, with vsatp and hgatp Bare.
 pub const START: u64 = 0;

@@ -6,11 +6,11 @@ use crate::cases::{
     CASE, Case, End, GuestPageFault, HELD, hart_of, holds, memory_of, put, stop_of,
 };
 use rv64_hart::Tally;
-use sample_programs::LineFault;
-use sample_programs::places::At::{Pc, X};
-use sample_programs::places::{At, HEDELEG, HGATP, VSATP};
 use std::alloc::Global;
 use std::test::Fail;
+use test_programs::LineFault;
+use test_programs::places::At::{Pc, X};
+use test_programs::places::{At, HEDELEG, HGATP, VSATP};
 
 const RAM: u64 = 0x8000_0000;
 

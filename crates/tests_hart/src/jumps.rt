@@ -2,8 +2,8 @@
 // 20191213, 2; Privileged Architecture 20211203, 8.6.1).
 
 use crate::cases::{CASE, Case, End, START, holds};
-use sample_programs::places::At::X;
 use std::test::Fail;
+use test_programs::places::At::X;
 
 // Jumps, and branches whose target is not a multiple of 4.
 static JUMPS: [Case; 12] = [

@@ -2,8 +2,8 @@
 // are those of the standard (Privileged Architecture 20211203, 8.6.1).
 
 use crate::cases::{CASE, Case, DATA, End, START, holds};
-use sample_programs::places::At::{Pc, X};
 use std::test::Fail;
+use test_programs::places::At::{Pc, X};
 
 // The end of memory.
 const END: u64 = DATA + 0x1000;

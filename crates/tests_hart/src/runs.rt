@@ -2,11 +2,11 @@
 
 use crate::cases::{CASE, Case, DATA, End, START, memory_of, stop_of};
 use rv64_hart::{Hart, Tally};
-use sample_programs::LineFault;
-use sample_programs::places::At::{Pc, X};
-use sample_programs::places::value_at;
 use std::alloc::Global;
 use std::test::Fail;
+use test_programs::LineFault;
+use test_programs::places::At::{Pc, X};
+use test_programs::places::value_at;
 
 // The words by hand, from the formats of the Unprivileged ISA 20191213, 2.3: I has imm[11:0] rs1 funct3 rd
 // opcode, U imm[31:12] rd opcode, J imm[20|10:1|11|19:12] rd opcode.

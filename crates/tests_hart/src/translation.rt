@@ -4,13 +4,13 @@
 
 use crate::cases::{CASE, Case, DATA, End, HELD, holds};
 use arch_defs::Mode;
-use sample_programs::LineFault;
-use sample_programs::places::At::{Mode as InMode, Pc, X};
-use sample_programs::places::{
-    At, HEDELEG, MXR, SPP, SSTATUS, SUM, VS, VSATP, VSCAUSE, VSEPC, VSSTATUS, VSTVAL, VSTVEC, XL,
-};
 use std::alloc::Global;
 use std::test::Fail;
+use test_programs::LineFault;
+use test_programs::places::At::{Mode as InMode, Pc, X};
+use test_programs::places::{
+    At, HEDELEG, MXR, SPP, SSTATUS, SUM, VS, VSATP, VSCAUSE, VSEPC, VSSTATUS, VSTVAL, VSTVEC, XL,
+};
 
 // The code's own addresses are mapped by a leaf of 1 GiB in entry 2 of the root.
 const CODE: u64 = 0x8000_0000;

@@ -3,13 +3,13 @@
 
 use crate::cases::{CASE, Case, End, START, holds};
 use arch_defs::Mode;
-use sample_programs::places::At::{Lines, Mode as InMode, Pc, Time, X};
-use sample_programs::places::{
+use std::test::Fail;
+use test_programs::places::At::{Lines, Mode as InMode, Pc, Time, X};
+use test_programs::places::{
     At, HCOUNTEREN, HEDELEG, HIDELEG, HIE, HSTATUS, HTIMEDELTA, HVIP, INTERRUPT, INTERRUPTS, MXR,
     SATP, SCAUSE, SEPC, SIE, SPIE, SPP, SSCRATCH, SSTATUS, STVAL, STVEC, SUM, VS, VSCAUSE, VSEPC,
     VSSCRATCH, VSSTATUS, VSTVAL, VSTVEC, VTSR, VTVM, VTW, VU, XL,
 };
-use std::test::Fail;
 
 const HANDLER: u64 = START + 0x100;
 

@@ -5,11 +5,11 @@ use crate::cases::{CASE, Case, DATA, hart_of, memory_of};
 use arch_defs::{Reg, Width};
 use op_defs::{AmoOp, DataAccess, Purpose};
 use rv64_hart::wanted_at;
-use sample_programs::LineFault;
-use sample_programs::places::At::{Pc, X};
-use sample_programs::places::VSATP;
 use std::alloc::Global;
 use std::test::Fail;
+use test_programs::LineFault;
+use test_programs::places::At::{Pc, X};
+use test_programs::places::VSATP;
 
 // What x6 has.
 const VALUE: u64 = 0x1122_3344_5566_7788;

@@ -6,8 +6,8 @@ use Rattle.frame_split.specs.Shares.{frames_with}
 use Rattle.guest_save.specs.Needs as saved
 use Rattle.guest_save.specs.Savable.{IsSavable}
 use Rattle.guest_save.specs.Saves.{SavedMachine}
-use Rattle.guest_specs.specs.Needs.{frames_needed, need_of}
-use Rattle.guest_specs.specs.declared.guests.GuestSpec.{GuestSpec}
+use Rattle.guest_settings.specs.Needs.{frames_needed, need_of}
+use Rattle.guest_settings.specs.declared.guests.GuestSpec.{GuestSpec}
 use Rattle.guest_turns.specs.Limits.{AreBootable, frames_for}
 use Rattle.machine_defs.specs.Bootable.{IsBootable}
 use Rattle.guest_turns.specs.Sources.{AreBootableSources, IsBootableSource, needs_of_sources}

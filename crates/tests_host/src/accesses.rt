@@ -2,13 +2,13 @@
 
 use crate::cases::{CASE, Case, NEXT, START, STEPPED, holds, holds_also};
 use arch_defs::Mode;
-use sample_programs::LineFault;
-use sample_programs::places::{
+use std::alloc::Global;
+use std::test::Fail;
+use test_programs::LineFault;
+use test_programs::places::{
     At, GVA, HGATP, HS, HSTATUS, HTINST, HTVAL, HU, MXR, SCAUSE, SEPC, SPP, SPVP, SSTATUS, STVAL,
     STVEC, SUM, U, VSATP, VSSTATUS, XL,
 };
-use std::alloc::Global;
-use std::test::Fail;
 
 const HLV_B: &str = "hlv.b x10, (x5)";
 

@@ -7,9 +7,9 @@ use guest_exit::{Guest, Handled};
 use machine_defs::Status;
 use phys_mem::PhysMem;
 use rv64_hart::Tally;
-use sample_programs::LineFault;
-use sample_programs::places::{At, value_at};
 use std::alloc::Global;
+use test_programs::LineFault;
+use test_programs::places::{At, value_at};
 
 pub const START: u64 = 0x8000_0000;
 

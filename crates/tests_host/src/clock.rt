@@ -6,12 +6,12 @@ use crate::tries::By;
 use arch_defs::Mode;
 use guest_exit::Handled;
 use machine_defs::Status;
-use sample_programs::LineFault;
-use sample_programs::places::{
-    At, HS, HTIMEDELTA, INTERRUPT, SCAUSE, SCOUNTEREN, SIE, SIP, STVEC, U,
-};
 use std::alloc::Global;
 use std::test::Fail;
+use test_programs::LineFault;
+use test_programs::places::{
+    At, HS, HTIMEDELTA, INTERRUPT, SCAUSE, SCOUNTEREN, SIE, SIP, STVEC, U,
+};
 
 const NO_WAKE: u64 = 0x4000_0000_0000_0000;
 

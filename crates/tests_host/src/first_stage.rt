@@ -3,8 +3,8 @@
 // entry from bit 10 on, D A G U X W R V in bits 7 to 0.
 
 use crate::cases::{CASE, Case, HART, HART_BY_TRAP, STEPPED, holds};
-use sample_programs::places::{At, HS, SATP, SCAUSE, SEPC, STVAL, STVEC};
 use std::test::Fail;
+use test_programs::places::{At, HS, SATP, SCAUSE, SEPC, STVAL, STVEC};
 
 // Sv39, with the root in the page 80004000.
 const TABLE: u64 = 0x8000_0000_0008_0004;

@@ -4,13 +4,13 @@
 
 use crate::cases::{CASE, Case, HART, RETRY, STEPPED, holds, holds_also};
 use crate::tries::By;
-use sample_programs::LineFault;
-use sample_programs::places::{
+use std::alloc::Global;
+use std::test::Fail;
+use test_programs::LineFault;
+use test_programs::places::{
     At, GVA, HGATP, HS, HSTATUS, HTINST, HTVAL, SCAUSE, SEPC, SPP, SPV, SPVP, SSTATUS, STVAL,
     STVEC, VS, VSATP, XL,
 };
-use std::alloc::Global;
-use std::test::Fail;
 
 const HANDLER: u64 = 0x8000_0100;
 

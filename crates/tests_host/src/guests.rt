@@ -3,9 +3,9 @@
 ghost use Rattle.std.specs.Prelude.{◌≡◌, ◌+◌, ◌^◌, ◌≤◌, None, IfOk, IfSome};
 ghost use Rattle.arch_defs.specs.Clocks.{times_at_start};
 ghost use Rattle.arch_defs.specs.Frames.{Only, in_blocks};
-ghost use Rattle.guest_specs.specs.Inputs.{AreInputs};
+ghost use Rattle.guest_settings.specs.Inputs.{AreInputs};
 ghost use Rattle.arch_defs.specs.WalkedEntries.{folds};
-ghost use Rattle.guest_specs.specs.declared.statuses.Status.TheVariants.{Running};
+ghost use Rattle.guest_settings.specs.declared.statuses.Status.TheVariants.{Running};
 ghost use Rattle.guest_exit.specs.Starting.{IsNewPool};
 ghost use Rattle.guest_exit.specs.View.{IsPlaced};
 
@@ -16,9 +16,9 @@ use guest_exit::{Console, Guest, Pool};
 use host_tables::build;
 use machine_defs::Status;
 use phys_mem::{NoMemory, PhysMem, RAM_BASE};
-use sample_programs::places::{At, set_all};
-use sample_programs::{LineFault, words};
 use std::alloc::Global;
+use test_programs::places::{At, set_all};
+use test_programs::{LineFault, words};
 use virtual_timer::Clock;
 
 // The frames of a machine memory of two blocks.

@@ -4,13 +4,13 @@ use crate::cases::{Case, HART, START, holds, holds_also};
 use crate::nested::NESTED;
 use crate::tries::By;
 use arch_defs::Mode;
-use sample_programs::LineFault;
-use sample_programs::places::{
+use std::alloc::Global;
+use std::test::Fail;
+use test_programs::LineFault;
+use test_programs::places::{
     At, HIDELEG, HIE, HS, HSTATUS, HVIP, INTERRUPT, INTERRUPTS, SCAUSE, SEPC, SIE, SPV, SPVP,
     SSTATUS, STVAL, STVEC, VS, VSCAUSE, VSEPC, VSSTATUS, VSTVAL, VSTVEC, XL,
 };
-use std::alloc::Global;
-use std::test::Fail;
 
 const HS_HANDLER: u64 = 0x8000_0100;
 

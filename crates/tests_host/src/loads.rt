@@ -6,10 +6,10 @@ use crate::cases::{Case, HART, HART_BY_TRAP, START, STEPPED, holds, holds_also};
 use crate::nested::NESTED;
 use crate::tries::By;
 use arch_defs::Mode;
-use sample_programs::LineFault;
-use sample_programs::places::{At, INTERRUPTS, MXR, SATP, SCAUSE, SSTATUS, SUM, VSATP, VSSTATUS};
 use std::alloc::Global;
 use std::test::Fail;
+use test_programs::LineFault;
+use test_programs::places::{At, INTERRUPTS, MXR, SATP, SCAUSE, SSTATUS, SUM, VSATP, VSSTATUS};
 
 // The table's root at 80001000: entry 0 maps 0 to RAM's gigabyte as a page of U that can be read (V, R, U and
 // A, 53), entry 2 maps that gigabyte to itself as one that can be executed alone (V, X and A, 49).

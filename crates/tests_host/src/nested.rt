@@ -4,14 +4,14 @@
 use crate::cases::{CASE, Case, HART, HART_BY_TRAP, NEXT, START, STEPPED, holds, holds_also};
 use crate::tries::By;
 use arch_defs::Mode;
-use sample_programs::LineFault;
-use sample_programs::places::{
+use std::alloc::Global;
+use std::test::Fail;
+use test_programs::LineFault;
+use test_programs::places::{
     At, GVA, HCOUNTEREN, HEDELEG, HGATP, HS, HSTATUS, HTIMEDELTA, HTVAL, INTERRUPTS, OF_HS, OF_VS,
     SCAUSE, SCOUNTEREN, SEPC, SPIE, SPP, SPV, SPVP, SSTATUS, STVAL, STVEC, VS, VSATP, VSCAUSE,
     VSEPC, VSSCRATCH, VSSTATUS, VSTVAL, VSTVEC, VTSR, VTVM, VTW, VU, XL,
 };
-use std::alloc::Global;
-use std::test::Fail;
 
 const HS_HANDLER: u64 = 0x8000_0100;
 

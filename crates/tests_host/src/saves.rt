@@ -3,7 +3,7 @@
 use crate::moves::NESTS;
 use crate::turns::{PUTS_A, RESERVES, Turn, guests, makes};
 use guest_save::{SaveEnd, read};
-use guest_specs::Need;
+use guest_settings::Need;
 use guest_turns::{Host, Source};
 use machine_defs::Name;
 use no_memory::NoMemory;

@@ -3,13 +3,13 @@
 use crate::cases::{CASE, Case, HART, HART_BY_TRAP, NEXT, START, STEPPED, holds, holds_also};
 use crate::tries::By;
 use arch_defs::Mode;
-use sample_programs::LineFault;
-use sample_programs::places::{
+use std::alloc::Global;
+use std::test::Fail;
+use test_programs::LineFault;
+use test_programs::places::{
     At, GVA, HIE, HS, HSTATUS, HTINST, HTVAL, HVIP, INTERRUPT, INTERRUPTS, SCAUSE, SEPC, SIE, SIP,
     SPIE, SPP, SPV, SPVP, SSTATUS, STVAL, STVEC, U, XL,
 };
-use std::alloc::Global;
-use std::test::Fail;
 
 const HANDLER: u64 = 0x8000_0100;
 

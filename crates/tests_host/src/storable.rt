@@ -2,7 +2,7 @@
 
 ghost use Rattle.std.specs.Prelude.{◌≡◌, None, true};
 ghost use Rattle.arch_defs.specs.CsrBits.{epc_bits, guest_root_of, hedeleg_bits, hgatp_bits, satp_bits, supervisor_root_of, tvec_bits};
-ghost use Rattle.machine_laws.specs.StorableStates.{IsStorable, stored_form, supervisor_form};
+ghost use Rattle.run_laws.specs.StorableStates.{IsStorable, stored_form, supervisor_form};
 
 use arch_defs::{Csrs, GuestRoot, Reg, SupervisorCsrs, SupervisorRoot, Virtual};
 
@@ -51,7 +51,7 @@ fn is_hedeleg(value: u64) -> bool
 }
 
 // Of satp or vsatp.
-#[tactic(auto, using(machine_laws::proofs::StoredForms::atp_bare, machine_laws::proofs::StoredForms::atp_table))]
+#[tactic(auto, using(run_laws::proofs::StoredForms::atp_bare, run_laws::proofs::StoredForms::atp_table))]
 fn is_satp(root: SupervisorRoot) -> bool
     ensures { result ≡ true → supervisor_root_of root (satp_bits root) ≡ root }
 {

@@ -1,7 +1,7 @@
 // Tries of a guest's next steps, and who made each.
 
 ghost use Rattle.std.specs.Prelude.{◌≡◌, ◌+◌, ◌*◌, ◌^◌, ◌<◌, ◌≤◌, IfOk};
-ghost use Rattle.guest_specs.specs.declared.statuses.Status.TheVariants.{Running};
+ghost use Rattle.guest_settings.specs.declared.statuses.Status.TheVariants.{Running};
 ghost use Rattle.machine_defs.specs.Machine.{with_pending_lines};
 ghost use Rattle.guest_exit.specs.View.{IsPlaced, platform_of};
 

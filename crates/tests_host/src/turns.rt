@@ -3,7 +3,7 @@
 ghost use Rattle.std.specs.Prelude.{◌≡◌, ◌≤◌, length, IfOk, IfSome};
 ghost use Rattle.guest_turns.specs.Limits.{AreBootable, frames_for};
 ghost use Rattle.machine_defs.specs.Bootable.{IsBootable};
-ghost use Rattle.guest_specs.specs.Needs.{need_of};
+ghost use Rattle.guest_settings.specs.Needs.{need_of};
 
 use guest_turns::Host;
 use machine_defs::{Bytes, GuestSpec, Inputs, Name, Status};

@@ -6,10 +6,10 @@ use crate::tries::By;
 use arch_defs::Mode;
 use guest_exit::Handled;
 use machine_defs::Status;
-use sample_programs::LineFault;
-use sample_programs::places::{At, HIE, HS, HSTATUS, HVIP, SCAUSE, SIE, SIP, STVAL, VS, VTW};
 use std::alloc::Global;
 use std::test::Fail;
+use test_programs::LineFault;
+use test_programs::places::{At, HIE, HS, HSTATUS, HVIP, SCAUSE, SIE, SIP, STVAL, VS, VTW};
 
 const NO_WAKE: u64 = 0x4000_0000_0000_0000;
 

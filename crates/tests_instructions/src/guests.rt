@@ -1,6 +1,6 @@
 // What a guest is given.
 
-use guest_specs::{Bytes, GuestSpec, Inputs, Name};
+use guest_settings::{Bytes, GuestSpec, Inputs, Name};
 use std::test::Fail;
 
 // The small types give back what they got.

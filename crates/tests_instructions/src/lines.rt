@@ -1,7 +1,7 @@
 // Lines of assembly and their words.
 
-use sample_programs::{LineFault, words};
 use std::alloc::Global;
+use test_programs::{LineFault, words};
 
 // Each name, and its word by GNU as 2.40 (Debian's binutils-riscv64-linux-gnu).
 static LINES: [(&'static str, u32); 168] = [

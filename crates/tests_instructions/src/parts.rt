@@ -7,8 +7,13 @@ use arch_defs::{Need, Part};
 
 // A part with these blocks, whose roots and tables lie behind them.
 fn part(blocks: &[u32], first_root: u32, first_table: u32, spaces: u16, entries: u16) -> Part
-    requires { names_each_once (record { blocks = blocks.now; first_root = first_root;
-        first_table = first_table; spaces = spaces; entries = entries }) ≡ true }
+    requires { names_each_once (record {
+      blocks = blocks.now;
+      first_root = first_root;
+      first_table = first_table;
+      spaces = spaces;
+      entries = entries;
+    }) ≡ true }
 {
     Part::new(blocks, first_root, first_table, spaces, entries)
 }

@@ -4,8 +4,8 @@
 use arch_defs::BLOCK_SIZE;
 use guest_loader::{fits, load};
 use host_tables::{Part, PhysMem, build, frame_of};
-use sample_memory::{has_words, memory, part, put};
 use std::test::Fail;
+use test_memory::{has_words, memory, part, put};
 
 // Loads an image where it fits and the part lies in memory.
 fn loaded(memory: &mut PhysMem, part: &Part, image: &[u8]) -> bool {

@@ -10,11 +10,11 @@ ghost use Rattle.shadow_pool.specs.Slots.{TidyPool};
 use arch_defs::{Access, GuestMode, GuestRoot, Shape, TABLES_PER_ENTRY, WalkEnd};
 use no_memory::NoMemory;
 use phys_mem::PhysMem;
-use sample_memory::{Words, memory, part};
 use shadow_pool::{Entry, Fence, Key, Part, Pool};
 use stage_walk::walk;
 use std::alloc::Global;
 use std::test::Fail;
+use test_memory::{Words, memory, part};
 
 /// Memory and a pool.
 #[derive(Drop)]

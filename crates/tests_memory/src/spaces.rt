@@ -9,11 +9,11 @@ ghost use Rattle.shadow_space.specs.Shadows.{Tidy};
 
 use arch_defs::{Access, Shape, TABLES_PER_ENTRY, WalkEnd};
 use phys_mem::{NoMemory, PhysMem};
-use sample_memory::{Words, memory, part, word_at};
 use shadow_space::{Entry, MOST_ENTRIES, Part, Space};
 use stage_walk::walk;
 use std::alloc::Global;
 use std::test::Fail;
+use test_memory::{Words, memory, part, word_at};
 
 // Memory and a space.
 #[derive(Drop)]

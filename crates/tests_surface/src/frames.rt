@@ -8,9 +8,9 @@ use frame_split::{Need, PlanFault, Split, plan};
 use guest_loader::{fits, load};
 use host_tables::{build, frame_of};
 use phys_mem::PhysMem;
-use sample_memory::{memory, part};
 use std::alloc::Global;
 use std::test::Fail;
+use test_memory::{memory, part};
 
 const SMALL: Need = Need {
     blocks: 1,

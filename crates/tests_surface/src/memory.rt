@@ -3,8 +3,8 @@
 use arch_defs::Part;
 use no_memory::NoMemory;
 use phys_mem::{Mem, PhysMem, Ram};
-use sample_memory::{memory, part};
 use std::test::Fail;
+use test_memory::{memory, part};
 
 // Doublewords at 8, below and above them: the bytes of the number, the lowest first.
 fn numbers(memory: &mut PhysMem) -> Option<(u64, u64)> {

@@ -9,10 +9,10 @@ ghost use Rattle.shadow_pool.specs.Slots.{HasSpaceFor, TidyPool, spaces_of};
 use arch_defs::{Entry, Fence, GuestMode, GuestRoot, Key, Part, TABLES_PER_ENTRY};
 use no_memory::NoMemory;
 use phys_mem::PhysMem;
-use sample_memory::{memory, part};
 use shadow_pool::Pool;
 use std::alloc::Global;
 use std::test::Fail;
+use test_memory::{memory, part};
 
 /// Memory and a pool.
 #[derive(Drop)]

@@ -9,11 +9,11 @@ ghost use Rattle.shadow_space.specs.Shadows.{Tidy};
 use arch_defs::{Access, Entry, Part, Shape, TABLES_PER_ENTRY, WalkEnd};
 use no_memory::NoMemory;
 use phys_mem::PhysMem;
-use sample_memory::{Words, memory, part};
 use shadow_space::Space;
 use stage_walk::walk;
 use std::alloc::Global;
 use std::test::Fail;
+use test_memory::{Words, memory, part};
 
 const PAGE: Entry = Entry {
     page: 0x10,

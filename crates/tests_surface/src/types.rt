@@ -4,11 +4,11 @@ use arch_defs::{
     Access, Csrs, Entry, Fence, GuestRoot, HartState, HypervisorStatus, Interrupts, Level, Mode,
     Regs, Shape, SupervisorCsrs, Tag, Trap, Virtual,
 };
-use guest_specs::{Bytes, GuestSpec, Inputs, Name, Need, Status};
+use guest_settings::{Bytes, GuestSpec, Inputs, Name, Need, Status};
 use no_memory::NoMemory;
-use sample_memory::part;
 use std::alloc::Global;
 use std::test::Fail;
+use test_memory::part;
 
 #[test]
 fn a_trap(rt: HostRuntime) {

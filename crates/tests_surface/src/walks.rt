@@ -11,10 +11,10 @@ use no_memory::NoMemory;
 use op_defs::{CsrOp, CsrSource, Op};
 use phys_mem::{PhysMem, Ram};
 use rv64_asm::fits;
-use sample_memory::{memory, part, put};
 use stage_walk::{Fetch, walk};
 use std::alloc::Global;
 use std::test::Fail;
+use test_memory::{memory, part, put};
 use trap_delegation::enter_hs;
 use two_stage_walk::translate;
 

@@ -4,11 +4,11 @@ use Rattle.arch_defs.specs.CsrBits.{epc_bits, guest_root_of, hedeleg_bits, hgatp
 use Rattle.arch_defs.specs.Memory.{ram_base}
 use Rattle.arch_defs.specs.Registers.{virtual_at}
 use Rattle.arch_defs.specs.declared.modes.Mode.TheVariants.{HS}
-use Rattle.machine_laws.specs.StorableStates.{IsStorable}
+use Rattle.run_laws.specs.StorableStates.{IsStorable}
 use Rattle.std.proofs.lemmas.List.Elements.{All-cons, All-nil}
 use Rattle.frame_split.specs.Shares.{frames_with}
-use Rattle.guest_specs.specs.Needs.{frames_needed, need_of}
-use Rattle.guest_specs.specs.declared.guests.GuestSpec.{GuestSpec}
+use Rattle.guest_settings.specs.Needs.{frames_needed, need_of}
+use Rattle.guest_settings.specs.declared.guests.GuestSpec.{GuestSpec}
 use Rattle.guest_turns.specs.Limits.{AreBootable, frames_for}
 use Rattle.machine_defs.specs.Bootable.{IsBootable}
 use Rattle.guest_turns.specs.Sources.{AreBootableSources, IsBootableSource, need_of_source, needs_of_sources}

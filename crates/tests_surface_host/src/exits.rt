@@ -5,14 +5,14 @@ ghost use Rattle.arch_defs.specs.Clocks.{times_at_start};
 ghost use Rattle.arch_defs.specs.Memory.{ram_base};
 ghost use Rattle.arch_defs.specs.Registers.{virtual_at};
 ghost use Rattle.arch_defs.specs.declared.modes.Mode.TheVariants as mode;
-ghost use Rattle.guest_specs.specs.declared.statuses.Status.TheVariants.{Running};
+ghost use Rattle.guest_settings.specs.declared.statuses.Status.TheVariants.{Running};
 ghost use Rattle.machine_defs.specs.Machine.{with_pending_lines};
 ghost use Rattle.guest_exit.specs.Starting.{IsNewPool};
 ghost use Rattle.guest_exit.specs.View.{IsPlaced, platform_of};
 
 use arch_defs::{Mode, Part, Virtual};
 use guest_exit::{Console, Guest, Handled, Pool, enter, handle, interrupt, limit};
-use guest_specs::Status;
+use guest_settings::Status;
 use host_tables::build;
 use no_memory::NoMemory;
 use phys_mem::PhysMem;

@@ -1,14 +1,14 @@
 // Guests on one hart: how they are booted, turned, moved, retired and saved, and what goes on from a file.
 
 ghost use Rattle.std.specs.Prelude.{◌≡◌, ◌≤◌, IfOk, IfSome};
-ghost use Rattle.guest_specs.specs.Needs.{need_of};
+ghost use Rattle.guest_settings.specs.Needs.{need_of};
 ghost use Rattle.guest_turns.specs.Limits.{AreBootable, frames_for};
 ghost use Rattle.machine_defs.specs.Bootable.{IsBootable};
 ghost use Rattle.guest_turns.specs.Sources.{AreBootableSources, needs_of_sources};
 ghost use Rattle.frame_split.specs.Shares.{frames_with};
 
 use guest_save::{SaveEnd, Saved, read};
-use guest_specs::{Bytes, GuestSpec, Inputs, Name, Need, Status};
+use guest_settings::{Bytes, GuestSpec, Inputs, Name, Need, Status};
 use guest_turns::{Host, MoveFault, Moves, Source};
 use no_memory::NoMemory;
 use outside::{ListSink, SinkFault};

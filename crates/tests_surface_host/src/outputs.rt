@@ -1,7 +1,7 @@
 // What a run reads and writes: stores and sinks, sections and their comparison, words, generated images, and
 // turns.
 
-use guest_specs::{GuestSpec, Name, Status};
+use guest_settings::{GuestSpec, Name, Status};
 use no_memory::NoMemory;
 use outside::{
     CleanSink, CleanStore, FileStore, ListSink, MapStore, Sink, SinkFault, StdSink, Store,

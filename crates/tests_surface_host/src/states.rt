@@ -7,9 +7,9 @@ use arch_defs::{Csrs, FirstBuffer, HartState, Key, Mode, Part, Regs, Tag, Virtua
 use no_memory::NoMemory;
 use phys_mem::PhysMem;
 use rv64_hart::{Hart, Stop, Tally, Why};
-use sample_memory::{memory, part, put};
 use std::alloc::Global;
 use std::test::Fail;
+use test_memory::{memory, part, put};
 use world_switch::{load, save, to_guest_hs, to_nested};
 
 const START: u64 = 0x8000_0000;

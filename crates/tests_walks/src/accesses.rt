@@ -7,9 +7,9 @@ use arch_defs::{Access, Csrs, Mode, Reg, Trap, Virtual, Width};
 use data_access::{DataAccess, Purpose, complete, kind_of, place_for};
 use op_defs::AmoOp;
 use phys_mem::{NoMemory, PhysMem};
-use sample_memory::{has_words, with_words};
 use std::alloc::Global;
 use std::test::Fail;
+use test_memory::{has_words, with_words};
 
 const START: u64 = 0x8000_0000;
 

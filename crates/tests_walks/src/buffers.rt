@@ -11,9 +11,9 @@ use arch_defs::{
     SupervisorRoot, Tag, Virtual,
 };
 use phys_mem::{NoMemory, PhysMem};
-use sample_memory::{put, with_words};
 use std::alloc::Global;
 use std::test::Fail;
+use test_memory::{put, with_words};
 use translation_buffer::Buffer;
 
 // Memory of sixteen frames from 0 on. The root of hgatp's table is frames 4 to 7; its entry 0 names the table

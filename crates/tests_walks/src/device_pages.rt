@@ -4,7 +4,7 @@
 // bit 10 on, D A G U X W R V in bits 7 to 0.
 
 ghost use Rattle.std.specs.Prelude.{IfOk};
-ghost use Rattle.guest_specs.specs.Inputs.{AreInputs};
+ghost use Rattle.guest_settings.specs.Inputs.{AreInputs};
 
 use crate::forms::End::{Done, Fault};
 use crate::forms::{Made, Row, ended, expected, op_of, state_after, state_before};
@@ -13,9 +13,9 @@ use crate::translations::{End, csrs_for};
 use arch_defs::{Access, Mode, Trap, Width};
 use console_dev::Console;
 use phys_mem::{NoMemory, PhysMem};
-use sample_memory::with_words;
 use std::alloc::Global;
 use std::test::Fail;
+use test_memory::with_words;
 use two_stage_walk::translate;
 
 // The root of hgatp's table is frames 4 to 7, with tables in the frames 8 and 9. vsatp's tables are at the

@@ -11,8 +11,8 @@ use console_dev::Console;
 use hlv_hsv::{Accessed, Op, access};
 use phys_mem::{Mem, PhysMem, Ram};
 use rv64_asm::fits;
-use sample_memory::{memory, part};
 use std::test::Fail;
+use test_memory::{memory, part};
 
 // The tables of a nested guest in RAM: hgatp's root at 80004000, tables at 80008000 and 80009000, whose slot
 // 1 lets 8000A000 be executed alone. 65 is there.

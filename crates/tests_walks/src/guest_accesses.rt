@@ -13,9 +13,9 @@ use crate::states::{
 use arch_defs::{Mode, Width};
 use console_dev::Console;
 use phys_mem::{NoMemory, PhysMem};
-use sample_memory::{has_words, with_words};
 use std::alloc::Global;
 use std::test::Fail;
+use test_memory::{has_words, with_words};
 
 // Accesses in this order in memory of `TABLES`, in a mode, with these CSRs; and doublewords afterwards.
 struct Case {

@@ -6,8 +6,8 @@ ghost use Rattle.arch_defs.specs.Frames.{LieIn, in_blocks};
 use crate::translations::{GUEST_ROOT, TABLES, answer, csrs_for, trap};
 use arch_defs::{Access, Mode, Part, Regs, Trap};
 use phys_mem::{Mem, PhysMem, Ram};
-use sample_memory::{memory, part, with_words};
 use std::test::Fail;
+use test_memory::{memory, part, with_words};
 use trap_delegation::enter_hs;
 use two_stage_walk::translate;
 

@@ -3,8 +3,8 @@
 use crate::translations::{End, TABLES, answer, csrs_of, expected};
 use arch_defs::{Access, GuestMode, Mode, SupervisorMode};
 use phys_mem::PhysMem;
-use sample_memory::with_words;
 use std::test::Fail;
+use test_memory::with_words;
 
 // The modes of both stages in four pairs.
 const PAIRS: [(SupervisorMode, GuestMode); 4] = [

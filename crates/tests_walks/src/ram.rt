@@ -6,9 +6,9 @@ ghost use Rattle.phys_mem.specs.MemoryBytes.{IsWidth};
 
 use arch_defs::Part;
 use phys_mem::{Mem, NoMemory, PhysMem, Ram};
-use sample_memory::{has_words, memory, part};
 use std::alloc::Global;
 use std::test::Fail;
+use test_memory::{has_words, memory, part};
 
 enum Step {
     Size(u64),

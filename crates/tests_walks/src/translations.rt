@@ -4,8 +4,8 @@
 
 use arch_defs::{Access, Csrs, GuestMode, GuestRoot, Mode, SupervisorMode, SupervisorRoot, Trap};
 use phys_mem::PhysMem;
-use sample_memory::with_words;
 use std::test::Fail;
+use test_memory::with_words;
 use two_stage_walk::translate;
 
 /// The registers of a guest whose hgatp names this page, and whose vsatp names that one, if any.

@@ -4,7 +4,7 @@ use Rattle.std.specs.Prelude.{map}
 use Rattle.std.specs.List.{range_with_len}
 use Rattle.std.proofs.lemmas.List.{ext_get_or}
 use Rattle.std.proofs.lemmas.List.FromFn.{length-map-range_with_len, get_or-map-range_with_len, map-range_with_len_more}
-use Rattle.guest_specs.specs.declared.guests.GuestSpec.{GuestSpec}
+use Rattle.guest_settings.specs.declared.guests.GuestSpec.{GuestSpec}
 use Rattle.rv64_asm.specs.Plans.{ImagePlan, IsImage, byte_at, size}
 use Rattle.work_images.specs.Numbers.{number}
 use Rattle.work_images.specs.Commands.{commands_from, list_bytes}

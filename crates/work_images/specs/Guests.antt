@@ -1,7 +1,7 @@
 -- The generated guests.
 use Rattle.std.specs.Prelude.{ℕ, ◌+◌, ◌*◌, false, List, [], ◌∷◌, map}
 use Rattle.std.specs.List.{range_with_len}
-use Rattle.guest_specs.specs.declared.guests.GuestSpec.{GuestSpec}
+use Rattle.guest_settings.specs.declared.guests.GuestSpec.{GuestSpec}
 use Rattle.rv64_asm.specs.Plans.{ImagePlan, byte_at, size}
 use Rattle.work_images.specs.Numbers.{number}
 use Rattle.work_images.specs.Commands.{commands_from, list_bytes}

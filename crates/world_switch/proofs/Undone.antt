@@ -22,8 +22,8 @@ use Rattle.arch_defs.specs.Ram.{IsDistinct}
 use Rattle.arch_defs.specs.Translation.{first_stage, found_under}
 use Rattle.arch_defs.specs.Traps.{entered_at, entered_hs, entered_vs, exception, is_delegated, is_guest_page_fault, is_virtual, target}
 use Rattle.csr_file.proofs.Statuses.{hedeleg_under}
-use Rattle.machine_laws.specs.HostPlaces.{in_ram, memory_place}
-use Rattle.machine_laws.specs.Renaming.{ReservesWithin, reservation_renamed}
+use Rattle.instruction_laws.specs.HostPlaces.{in_ram, memory_place}
+use Rattle.instruction_laws.specs.Renaming.{ReservesWithin, reservation_renamed}
 use Rattle.world_switch.specs.Hosting.{after_hs_trap, guest_state_after, guest_state_of, hart_state_of, hosted_csrs, hosted_level, hosted_mode, own_address, saved_csrs, saved_mode, saved_reservation}
 use Rattle.world_switch.specs.Laws.{ExceptionsAlike, InterruptsAlike, IsVirtual, LoadAfterSave, NestedTrapsAlike, SaveAfterLoad, SavesBack, SavesOwn, TakesAlike, TranslatesAlike, hidden}
 

@@ -21,8 +21,8 @@ use Rattle.arch_defs.specs.Registers.{clear_hypervisor_status, clear_supervisor_
 use Rattle.arch_defs.specs.Roots.{folded_mode, host_mode}
 use Rattle.arch_defs.specs.Traps.{is_supervisor, is_virtual, mode_of}
 use Rattle.machine_defs.specs.FirstLeaves.{tag_of}
-use Rattle.machine_laws.specs.HostPlaces.{memory_place}
-use Rattle.machine_laws.specs.Renaming.{renamed}
+use Rattle.instruction_laws.specs.HostPlaces.{memory_place}
+use Rattle.instruction_laws.specs.Renaming.{renamed}
 
 -- the hart's mode for a mode of the guest
 abbrev pub hosted_mode : Mode → Mode

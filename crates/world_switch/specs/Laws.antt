@@ -23,11 +23,11 @@ use Rattle.arch_defs.specs.Traps.{entered_at, exception, is_virtual, target}
 use Rattle.op_defs.specs.declared.ops.Privileged.{Privileged}
 use Rattle.op_defs.specs.declared.ops.Privileged.TheVariants.{Sret, Wfi, SfenceVma}
 use Rattle.machine_defs.specs.declared.events.Event.TheVariants.{System}
-use Rattle.machine_laws.specs.HostPlaces.{in_ram, memory_place}
+use Rattle.instruction_laws.specs.HostPlaces.{in_ram, memory_place}
 use Rattle.machine_defs.specs.FirstLeaves.{known_of, leaves_found}
 use Rattle.machine_defs.specs.Outcomes.{Done, FirstFenced}
 use Rattle.machine_defs.specs.Privileges.{privileged, refused}
-use Rattle.machine_laws.specs.Renaming.{ReservesWithin, renamed}
+use Rattle.instruction_laws.specs.Renaming.{ReservesWithin, renamed}
 use Rattle.world_switch.specs.Hosting.{guest_state_after, guest_state_of, hart_state_of, hosted_csrs, hosted_level, hosted_mode, loaded_in, saved_csrs, saved_in}
 
 -- the hart runs in this mode for that mode of the guest

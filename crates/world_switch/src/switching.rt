@@ -5,8 +5,8 @@ ghost use Rattle.std.specs.List.{position};
 ghost use Rattle.arch_defs.specs.Registers.{clear_hypervisor_status, clear_interrupts};
 ghost use Rattle.arch_defs.specs.Traps.{is_virtual};
 ghost use Rattle.machine_defs.specs.FirstLeaves.{tag_of};
-ghost use Rattle.machine_laws.specs.HostPlaces.{in_ram, memory_place};
-ghost use Rattle.machine_laws.specs.Renaming.{ReservesWithin, renamed, reservation_renamed};
+ghost use Rattle.instruction_laws.specs.HostPlaces.{in_ram, memory_place};
+ghost use Rattle.instruction_laws.specs.Renaming.{ReservesWithin, renamed, reservation_renamed};
 ghost use Rattle.world_switch.specs.Hosting.{after_hs_trap, all_interrupts, hosted_csrs, hosted_mode, is_space_root, loaded_in, own_address, own_reservation, root_at, saved_csrs, saved_in, saved_mode, saved_reservation, supervisor_with};
 
 use arch_defs::{

@@ -1,6 +1,6 @@
 use Rattle.std.proofs.Common.{◌≡◌, ◌++◌, [], ◌∷◌, length, arith, rules, get_or, subst}
 use Rattle.std.proofs.lemmas.List.{get_or_default}
-use Rattle.guest_specs.specs.declared.needs.Need.{Need}
+use Rattle.guest_settings.specs.declared.needs.Need.{Need}
 use Rattle.frame_split.specs.Shares.{SoFar}
 use Rattle.frame_split.proofs.Sharing.{blocks_below, roots_from, so_far_none, so_far_more, so_far_all}
 use Rattle.frame_split.proofs.Sums.{blocks_more, roots_more}

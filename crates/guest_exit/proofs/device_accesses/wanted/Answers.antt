@@ -1,6 +1,6 @@
 use Rattle.std.proofs.Common.{◌∙◌}
 use Rattle.guest_exit.specs.View.{machine_of}
-use Rattle.guest_exit.proofs.Followed.{wanted_is}
+use Rattle.hosted_steps.proofs.Followed.{wanted_is}
 use Rattle.guest_exit.proofs.device_accesses.wanted.Goals as goal
 
 pub returns : goal.returns

@@ -1,6 +1,6 @@
 use Rattle.std.proofs.Common.{◌∙◌}
 use Rattle.guest_exit.specs.View.{machine_of}
-use Rattle.guest_exit.proofs.Followed.{found_is}
+use Rattle.hosted_steps.proofs.Followed.{found_is}
 use Rattle.guest_exit.proofs.hart_exit.found_by_tables.Goals as goal
 
 pub returns-clause-value : goal.returns-clause-value

@@ -1,4 +1,4 @@
-use Rattle.guest_exit.specs.ExitCases.{found_next}
+use Rattle.hosted_steps.specs.ExitCases.{found_next}
 use Rattle.guest_exit.specs.View.{machine_of}
 use Rattle.guest_exit.proofs.Alone.{part_kept, retries_exactly}
 use Rattle.guest_exit.proofs.Entries.{left}

@@ -1,7 +1,7 @@
 use Rattle.std.proofs.Common.{sym, ◌∙◌}
 use Rattle.std.proofs.lemmas.Bool.{ne_eqb}
 use Rattle.arch_defs.specs.declared.modes.TheConstants.{VIRTUAL_INSTRUCTION}
-use Rattle.guest_exit.proofs.ExitCases.{other_exit_is, page_exit_is, word_exit_is}
+use Rattle.hosted_steps.proofs.ExitCases.{other_exit_is, page_exit_is, word_exit_is}
 use Rattle.guest_exit.proofs.hart_exit.make.Goals as goal
 
 pub returns-then-is_guest_page_code : goal.returns-then-is_guest_page_code

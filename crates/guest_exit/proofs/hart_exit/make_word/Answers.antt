@@ -1,6 +1,6 @@
 use Rattle.std.proofs.Common.{Some, None, sym, ◌∙◌}
 use Rattle.rv64_asm.proofs.Decoded as coded
-use Rattle.guest_exit.proofs.ExitCases.{decided_by_op}
+use Rattle.hosted_steps.proofs.ExitCases.{decided_by_op}
 use Rattle.guest_exit.proofs.hart_exit.make_word.Goals as goal
 
 pub make_op-requires-clause-fits : goal.make_op-requires-clause-fits

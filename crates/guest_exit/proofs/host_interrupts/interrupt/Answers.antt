@@ -7,7 +7,7 @@ use Rattle.guest_exit.specs.View.{machine_of, platform_of}
 use Rattle.guest_exit.proofs.Alone.{machine_is, stays_by}
 use Rattle.guest_exit.proofs.Entries.{interrupted}
 use Rattle.guest_exit.proofs.Placed.{placed_by_step}
-use Rattle.guest_exit.proofs.Taken.{entered_first}
+use Rattle.hosted_steps.proofs.Taken.{entered_first}
 use Rattle.guest_exit.proofs.host_interrupts.interrupt.Goals as goal
 
 -- where none is pending

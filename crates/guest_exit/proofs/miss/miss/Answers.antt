@@ -2,7 +2,7 @@ use Rattle.std.proofs.Common.{◌≡◌, ◌∙◌, true, false, refl, ap, sym}
 use Rattle.machine_defs.specs.Runs.{left_by}
 use Rattle.machine_defs.specs.Tries.{device_of, unplaced}
 use Rattle.guest_exit.specs.declared.hart_exit.Handled.TheVariants as handled
-use Rattle.guest_exit.specs.ExitCases.{data_wanted, having_found}
+use Rattle.hosted_steps.specs.ExitCases.{data_wanted, having_found}
 use Rattle.guest_exit.specs.View.{machine_of}
 use Rattle.shadow_pool.specs.Slots.{spaces_of}
 use Rattle.shadow_pool.proofs.Filling.{filled_in_front, front_held}

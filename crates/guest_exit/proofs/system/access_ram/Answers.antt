@@ -6,7 +6,7 @@ use Rattle.machine_defs.specs.Runs.{left_by}
 use Rattle.machine_defs.specs.Tries.{mmu_of}
 use Rattle.hcsr_emulation.specs.declared.registers.Accessed.TheVariants as answer
 use Rattle.hlv_hsv.specs.Ends.{EndsBy, hlv_state}
-use Rattle.guest_exit.specs.ExitCases.{decided_end, having_found}
+use Rattle.hosted_steps.specs.ExitCases.{decided_end, having_found}
 use Rattle.guest_exit.specs.HartExit.{with_state}
 use Rattle.guest_exit.specs.View.{machine_of}
 use Rattle.guest_exit.proofs.Alone.{blocks_changed}

@@ -4,7 +4,7 @@ use Rattle.machine_defs.specs.Machine.{Platform}
 use Rattle.arch_defs.specs.Registers.{passed}
 use Rattle.machine_defs.specs.Tries.{mmu_of}
 use Rattle.rv64_asm.specs.Words.{encoded}
-use Rattle.guest_exit.specs.ExitCases.{having_found}
+use Rattle.hosted_steps.specs.ExitCases.{having_found}
 use Rattle.guest_exit.specs.View.{machine_of}
 use Rattle.guest_exit.proofs.Alone.{wait_made, waited_is_quiet}
 use Rattle.guest_exit.proofs.Decided.{accesses_never, caching_storable, done_storable, kept_first, wait_is_op, wait_passes}

@@ -1,4 +1,4 @@
-use Rattle.machine_laws.specs.FirstKeys.{IsOfFirstTable}
+use Rattle.run_laws.specs.FirstKeys.{IsOfFirstTable}
 use Rattle.guest_save.proofs.Testing.{test_done, test_passed}
 use Rattle.guest_save.proofs.first_entries.all_first_fit.Goals as goal
 

@@ -1,4 +1,4 @@
-use Rattle.machine_laws.specs.FirstKeys.{AreApart}
+use Rattle.run_laws.specs.FirstKeys.{AreApart}
 use Rattle.guest_save.proofs.Testing.{pairs_done, pairs_failed, pairs_passed}
 use Rattle.guest_save.proofs.first_entries.are_apart.Goals as goal
 

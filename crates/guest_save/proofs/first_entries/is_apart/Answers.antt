@@ -4,7 +4,7 @@ use Rattle.std.proofs.Common.{false, ◌∙◌, sym}
 use Rattle.std.proofs.lemmas.Bool.{false≢true, true≢false}
 use Rattle.std.proofs.lemmas.List.Elements.{All-more}
 use Rattle.arch_defs.specs.declared.first.FirstEntry.{FirstEntry}
-use Rattle.machine_laws.specs.FirstKeys.{AreApart}
+use Rattle.run_laws.specs.FirstKeys.{AreApart}
 use Rattle.guest_save.proofs.Testing.{test_done}
 use Rattle.guest_save.proofs.first_entries.is_apart.Goals as goal
 

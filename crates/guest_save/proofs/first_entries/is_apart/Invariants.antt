@@ -1,6 +1,6 @@
 use Rattle.std.proofs.Common.{take}
 use Rattle.std.specs.List.{All}
-use Rattle.machine_laws.specs.FirstKeys.{AreApart}
+use Rattle.run_laws.specs.FirstKeys.{AreApart}
 use Rattle.guest_save.proofs.first_entries.is_apart.Given as goal
 
 abbrev pub invariant-loop-other : goal.invariant-loop-other

@@ -3,7 +3,7 @@ use Rattle.guest_save.proofs.Testing.{savable_by}
 use Rattle.guest_save.proofs.Viewing.{header_same}
 use Rattle.guest_save.specs.Headers.{header_of}
 use Rattle.machine_defs.specs.Machine.{Machine}
-use Rattle.machine_laws.specs.FirstKeys.{HasFirst}
+use Rattle.run_laws.specs.FirstKeys.{HasFirst}
 use Rattle.guest_save.proofs.savable.is_savable.Goals as goal
 
 pub returns : goal.returns

@@ -2,7 +2,7 @@ use Rattle.std.proofs.Common.{ℕ, ◌≡◌, ◌+◌, ◌<◌, List, length, ta
 use Rattle.std.proofs.lemmas.List.{take_all}
 use Rattle.arch_defs.specs.declared.first.FirstEntry.{FirstEntry}
 use Rattle.arch_defs.specs.FirstEntries.{HasGuestFrame, first_filled}
-use Rattle.machine_laws.specs.FirstKeys.{HasFirst}
+use Rattle.run_laws.specs.FirstKeys.{HasFirst}
 use Rattle.guest_turns.proofs.Remade.{first_next}
 use Rattle.guest_turns.proofs.booting.first_resumed.Goals as goal
 

@@ -1,6 +1,6 @@
 use Rattle.std.proofs.Common.{◌*◌, length, refl, ap, sym, ◌∙◌}
 use Rattle.arch_defs.specs.Memory.{block_size, loaded}
-use Rattle.guest_specs.specs.declared.needs.Need.{Need}
+use Rattle.guest_settings.specs.declared.needs.Need.{Need}
 use Rattle.guest_turns.proofs.Starting.{laid_more, none_laid, part_for}
 use Rattle.guest_turns.proofs.booting.lay_out.Goals as goal
 

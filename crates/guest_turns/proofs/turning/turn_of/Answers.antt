@@ -1,9 +1,9 @@
 use Rattle.std.proofs.Common.{◌≡◌, ◌≢◌, ◌∙◌, true, false, refl, sym, rules, arith}
-use Rattle.guest_specs.specs.declared.statuses.Status.{Status}
-use Rattle.guest_specs.specs.declared.statuses.Status.TheVariants.{Running, Waiting, Stopped}
+use Rattle.guest_settings.specs.declared.statuses.Status.{Status}
+use Rattle.guest_settings.specs.declared.statuses.Status.TheVariants.{Running, Waiting, Stopped}
 use Rattle.guest_exit.specs.View.{machine_of}
 use Rattle.guest_turns.proofs.Placing.{fixed_both, only_then}
-use Rattle.machine_laws.proofs.Running.{events_idle, events_none}
+use Rattle.fill_laws.proofs.Running.{events_idle, events_none}
 use Rattle.guest_turns.proofs.Turns.{accounted, accounted_then, budget_positive, budget_within}
 use Rattle.guest_turns.proofs.turning.turn_of.Goals as goal
 

@@ -1,7 +1,7 @@
 use Rattle.std.proofs.Common.{◌≡◌, ◌+◌, ◌≤◌}
 use Rattle.arch_defs.specs.Frames.{Only}
-use Rattle.machine_laws.specs.Budgets.{budget}
-use Rattle.guest_specs.specs.declared.statuses.Status.TheVariants.{Running}
+use Rattle.fill_laws.specs.Budgets.{budget}
+use Rattle.guest_settings.specs.declared.statuses.Status.TheVariants.{Running}
 use Rattle.machine_defs.specs.Runs.{run}
 use Rattle.guest_exit.specs.View.{KeepsLayout, changed_by, machine_of}
 use Rattle.guest_turns.specs.Hosting.{IsHosted}

@@ -1,5 +1,5 @@
 use Rattle.std.proofs.Common.{◌≡◌, ◌*◌, ◌≤◌, take}
-use Rattle.guest_specs.specs.Needs.{most_needed}
+use Rattle.guest_settings.specs.Needs.{most_needed}
 use Rattle.nesthv_top.proofs.Framing.{frames_by}
 use Rattle.nesthv_top.proofs.loading.frames_for.Given as goal
 

@@ -1,6 +1,6 @@
 use Rattle.std.proofs.Common.{◌≡◌, refl, subst, sym}
 use Rattle.translation_buffer.specs.Serving.{Serves}
-use Rattle.machine_laws.proofs.KeptFirst.{KeepsFirst, privileged_first}
+use Rattle.instruction_laws.proofs.KeptFirst.{KeepsFirst, privileged_first}
 use Rattle.rv64_hart.proofs.rare_instructions.privileged.Goals as goal
 
 pub returns-in-Done-clause-ends : goal.returns-in-Done-clause-ends

@@ -1,7 +1,7 @@
 use Rattle.std.specs.Prelude.{◌&&◌, ◌%◌, ◌==◌}
 use Rattle.std.proofs.Common.{◌≡◌, refl, subst, sym}
 use Rattle.translation_buffer.specs.Serving.{Serves}
-use Rattle.machine_laws.proofs.KeptFirst.{KeepsFirst, csr_first}
+use Rattle.instruction_laws.proofs.KeptFirst.{KeepsFirst, csr_first}
 use Rattle.rv64_hart.specs.Endings.{HasSameTranslation, Unless}
 use Rattle.rv64_hart.proofs.CsrWrites.{EndsAlike, csr_keeps_context}
 use Rattle.rv64_hart.proofs.rare_instructions.register.Goals as goal

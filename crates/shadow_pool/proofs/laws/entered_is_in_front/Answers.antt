@@ -1,4 +1,4 @@
-use Rattle.machine_laws.proofs.FrontSpaces.{in_front}
+use Rattle.instruction_laws.proofs.FrontSpaces.{in_front}
 use Rattle.shadow_pool.proofs.Front.{again}
 use Rattle.shadow_pool.proofs.laws.entered_is_in_front.Goals as goal
 

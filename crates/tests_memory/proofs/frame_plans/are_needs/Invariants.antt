@@ -1,6 +1,6 @@
 use Rattle.std.proofs.Common.{ℕ, ◌<◌, get_or}
-use Rattle.guest_specs.specs.declared.needs.Need.{Need}
-use Rattle.guest_specs.specs.Needs.{IsNeed}
+use Rattle.guest_settings.specs.declared.needs.Need.{Need}
+use Rattle.guest_settings.specs.Needs.{IsNeed}
 use Rattle.tests_memory.proofs.frame_plans.are_needs.Given as goal
 
 abbrev pub invariant-loop-i : goal.invariant-loop-i

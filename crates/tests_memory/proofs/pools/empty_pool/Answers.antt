@@ -1,7 +1,7 @@
 use Rattle.std.proofs.Common.{◌≡◌, ℕ, ◌+◌, ◌*◌, ◌≤◌, List, length, sym, ap, subst, ◌∙◌, arith}
 use Rattle.arch_defs.specs.Frames.{LieIn, within}
 use Rattle.arch_defs.specs.Layouts.{Layout}
-use Rattle.guest_specs.specs.Needs.{tables_for}
+use Rattle.guest_settings.specs.Needs.{tables_for}
 use Rattle.arch_defs.specs.Memory.{zeros}
 use Rattle.arch_defs.proofs.FrameSets.{same_none}
 use Rattle.arch_defs.proofs.Rooms.{joined_lie, range_lies}

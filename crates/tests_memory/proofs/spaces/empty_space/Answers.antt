@@ -1,7 +1,7 @@
 use Rattle.std.proofs.Common.{◌≡◌, ℕ, ◌+◌, ◌*◌, ◌<◌, ◌≤◌, List, length, sym, subst, arith}
 use Rattle.arch_defs.specs.Frames.{LieIn, Same, within}
 use Rattle.arch_defs.specs.Layouts.{Layout, space_frames}
-use Rattle.guest_specs.specs.Needs.{tables_for}
+use Rattle.guest_settings.specs.Needs.{tables_for}
 use Rattle.arch_defs.specs.Memory.{zeros}
 use Rattle.arch_defs.proofs.FrameSets.{same_none}
 use Rattle.arch_defs.proofs.Rooms.{joined_lie, range_lies}

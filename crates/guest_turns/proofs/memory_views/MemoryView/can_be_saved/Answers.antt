@@ -4,7 +4,7 @@ use Rattle.guest_save.specs.declared.headers.Header.{Header}
 use Rattle.guest_save.specs.declared.versions.Version.TheVariants.{Third}
 use Rattle.guest_save.specs.Headers.{header_numbers, header_of}
 use Rattle.guest_save.specs.Savable.{Fits, IsSavable}
-use Rattle.guest_specs.specs.Inputs.{AreInputs}
+use Rattle.guest_settings.specs.Inputs.{AreInputs}
 use Rattle.guest_turns.specs.Saving.{MayBeSaved}
 use Rattle.guest_turns.proofs.SavableGuests.{savable_hosted}
 use Rattle.guest_turns.proofs.memory_views.MemoryView.can_be_saved.Goals as goal

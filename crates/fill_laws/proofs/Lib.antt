@@ -1,0 +1,12 @@
+pub mod Changing
+pub mod Counting
+pub mod EachEntry
+pub mod Filling
+pub mod FoundAlike
+pub mod Fresh
+pub mod Leaves
+pub mod Orderly
+pub mod Ruling
+pub mod Running
+pub mod Stepping
+pub mod Walks

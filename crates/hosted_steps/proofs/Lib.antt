@@ -1,0 +1,11 @@
+pub mod Agreement
+pub mod Decided
+pub mod Delegation
+pub mod DevicePages
+pub mod ExitCases
+pub mod FarPlaces
+pub mod Followed
+pub mod Interrupts
+pub mod Privileged
+pub mod Stands
+pub mod Taken

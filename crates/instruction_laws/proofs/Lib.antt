@@ -1,0 +1,16 @@
+pub mod AlikeWalks
+pub mod Asking
+pub mod Cached
+pub mod Completions
+pub mod FirstTries
+pub mod FirstWalks
+pub mod FrontSpaces
+pub mod HostPlaces
+pub mod KeptByRuns
+pub mod KeptFirst
+pub mod MissedPlaces
+pub mod Placed
+pub mod RenamedLeaves
+pub mod Renaming
+pub mod Rooting
+pub mod TryEnds

@@ -1,0 +1,9 @@
+pub mod FirstKeys
+pub mod HlvAccesses
+pub mod InRam
+pub mod Keys
+pub mod OpWidths
+pub mod StorableRuns
+pub mod StorableStates
+pub mod StoredForms
+pub mod UnreadInputs
