@@ -38,9 +38,10 @@ use Rattle.machine_defs.specs.Core.{At, Fails, Located, accessed_data, called_fr
 use Rattle.machine_defs.specs.FirstLeaves.{entries_of, found_at, found_by_effect, found_by_op, found_for, leaf_if, leaf_under, leaves_found, unless_known}
 use Rattle.instruction_laws.specs.MissedPlaces.{wanted_by, wanted_of}
 use Rattle.translation_buffer.specs.Places.{passed_by}
-use Rattle.rv64_hart.specs.Endings.{attempt_at, attempt_of_effect, attempt_of_word, attempt_with}
+use Rattle.rv64_hart.specs.Endings.{IfMade, attempt_at, attempt_of_effect, attempt_of_word, attempt_with}
 use Rattle.rv64_hart.specs.MachineMemory.{found_on, found_over, mmu_on, reading_of_memory}
-use Rattle.rv64_hart.specs.Steps.{Attempt, attempt_of, caching, caching_found, with_found_on}
+use Rattle.machine_defs.specs.declared.events.Event.TheVariants.{Plain, System}
+use Rattle.rv64_hart.specs.Steps.{Attempt, Makes, attempt_of, caching, caching_found, with_found_on}
 
 -- where no table is walked, the address is passed on, and nothing is found
 pub passes : (first : List FirstEntry) (tag : Tag) (second : SecondStage) (reading : Reading) (who : Privilege) (va address : ℕ) (access : Access) (atp : SupervisorRoot)
@@ -183,3 +184,21 @@ pub data_ends : (s : HartState) (memory : List ℕ) (word : ℕ) (op : Op) (want
     → attempt_of (caching_found s (found_over memory s wanted.address wanted.width (kind_of wanted.purpose))) memory (accessed_data (mmu_on s memory) s.virt (event_of s.virt.regs.pc word) wanted) ≡ r
     → attempt_of_effect s memory word (meaning op s.virt.regs) ≡ r
 data_ends s memory word op wanted r is ends = subst (λ effect. attempt_of_effect s memory word effect ≡ r) (sym is) ends
+
+pub data_made : (made : Bool) (s : HartState) (memory : List ℕ) (word : ℕ) (op : Op) (wanted : DataAccess) (r : Attempt) → meaning op s.virt.regs ≡ Data wanted
+    → IfMade made (attempt_of (caching_found s (found_over memory s wanted.address wanted.width (kind_of wanted.purpose))) memory (accessed_data (mmu_on s memory) s.virt (event_of s.virt.regs.pc word) wanted) ≡ r)
+    → IfMade made (attempt_of_effect s memory word (meaning op s.virt.regs) ≡ r)
+data_made true s memory word op wanted r is ends = data_ends s memory word op wanted r is ends
+data_made false s memory word op wanted r is ends = tt
+
+pub effect_made : (made : Bool) (s : HartState) (memory : List ℕ) (word : ℕ) (op : Op) (effect : Effect) (r : Attempt) → IfMade made (attempt_of_effect s memory word effect ≡ r) → effect ≡ meaning op s.virt.regs
+    → IfMade made (attempt_of_effect s memory word (meaning op s.virt.regs) ≡ r)
+effect_made made s memory word op effect r ends is = subst (λ x. IfMade made (attempt_of_effect s memory word x ≡ r)) is ends
+
+pub word_made : (made : Bool) (s : HartState) (memory : List ℕ) (word : ℕ) (op : Op) (after : HartState) (changed : List ℕ) → Some op ≡ common_op_of word → op_of word ≡ Some op
+    → IfMade made (attempt_of_effect s memory word (meaning op s.virt.regs) ≡ Makes after changed (event_of s.virt.regs.pc word))
+    → IfMade made (attempt_of_word s memory word ≡ Makes after changed (Plain s.virt.regs.pc word))
+word_made true s memory word op after changed common is ends =
+    subst (λ o. attempt_of (caching_found s (found_by_op s.tag (mmu_on s memory) s.virt o)) memory (decoded (mmu_on s memory) s.virt word o) ≡ Makes after changed (event_of s.virt.regs.pc word)) (sym is) ends
+    ∙ ap (λ b. Makes after changed (cond b System (Plain s.virt.regs.pc word))) (common_plain word op common)
+word_made false s memory word op after changed common is ends = tt

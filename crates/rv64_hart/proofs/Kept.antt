@@ -1,6 +1,6 @@
 -- What instructions leave: the registers by which memory is accessed, the first-stage translations that are
 -- cached, and a buffer that serves on.
-use Rattle.std.proofs.Common.{◌≡◌, ◌+◌, ◌/◌, ℕ, List, Bool, true, false, refl, ap, sym, subst, ◌∙◌}
+use Rattle.std.proofs.Common.{◌≡◌, ◌+◌, ◌/◌, ℕ, List, [], Bool, true, false, refl, ap, sym, subst, ◌∙◌}
 use Rattle.arch_defs.specs.declared.first.FirstEntry.{FirstEntry}
 use Rattle.arch_defs.specs.declared.first.Tag.{Tag}
 use Rattle.arch_defs.specs.declared.modes.Access.{Access}
@@ -9,6 +9,7 @@ use Rattle.arch_defs.specs.declared.hart_states.HartState.{HartState}
 use Rattle.arch_defs.specs.declared.registers.Csrs.{Csrs}
 use Rattle.arch_defs.specs.declared.registers.Virtual.{Virtual}
 use Rattle.arch_defs.specs.declared.widths.Width.{Width}
+use Rattle.arch_defs.specs.FirstEntries.{all_filled}
 use Rattle.arch_defs.specs.Memory.{Reading, machine_memory, reading_of, with_stored}
 use Rattle.op_defs.specs.declared.ops.DataAccess.{DataAccess}
 use Rattle.op_defs.specs.declared.ops.Purpose.{Purpose}
@@ -23,9 +24,10 @@ use Rattle.translation_buffer.specs.Places.{translator}
 use Rattle.translation_buffer.specs.Serving.{PageStands, Serves, ServesHart}
 use Rattle.translation_buffer.specs.Tags.{run_bits, who_bits}
 use Rattle.translation_buffer.proofs.Stored.{serves_completed}
-use Rattle.rv64_hart.specs.Endings.{NoneDueIfQuiet, KeepsContext, HasSameTranslation}
-use Rattle.rv64_hart.specs.MachineMemory.{access_over, mmu_on, reading_of_memory}
-use Rattle.rv64_hart.specs.Steps.{Makes, attempt_of, caching}
+use Rattle.rv64_hart.specs.Endings.{KeepsContext, HasSameTranslation}
+use Rattle.rv64_hart.specs.MachineMemory.{access_over, found_over, mmu_on, reading_of_memory}
+use Rattle.rv64_hart.specs.Steps.{Makes, attempt_of, caching, caching_found}
+use Rattle.rv64_hart.proofs.FirstFound.{nothing_filled}
 
 pub keeps_completed : (reading : Reading) (state : Virtual) (width : Width) (purpose : Purpose) (place : ℕ)
     → KeepsContext state (completed reading state width purpose place).state
@@ -36,11 +38,6 @@ keeps_completed reading state width purpose place =
 pub keeps_after : (reading : Reading) (state new : Virtual) (width : Width) (purpose : Purpose) (place : ℕ)
     → new ≡ (completed reading state width purpose place).state → KeepsContext state new
 keeps_after reading state new width purpose place s = rw s (keeps_completed reading state width purpose place)
-
--- no interrupt comes to be due by a plain instruction
-pub quiet_kept : (quiet : Bool) (old new : Virtual) → KeepsContext old new → NoneDueIfQuiet quiet old → NoneDueIfQuiet quiet new
-quiet_kept true old new (csrs, mode) none = rw (csrs, mode) none
-quiet_kept false old new keeps none = tt
 
 -- at a place in no frame that was read
 pub serves_after : (buffer : Buffer) (s : HartState) (new : Virtual) (memory other : List ℕ) (width : Width) (purpose : Purpose) (place : ℕ)
@@ -99,3 +96,14 @@ pub access_ends : (cached : Access → List FirstEntry) (s filled : HartState) (
 access_ends cached s filled memory other access event wanted place after kind at is state stored =
     ends_at s filled memory other (cached (kind_of wanted.purpose)) event wanted place after (subst (λ a. access_over memory s wanted.address wanted.width a ≡ At place) kind at)
     (is ∙ ap (λ a. caching s (cached a)) kind) state stored
+
+-- where nothing is found
+pub kept_ends : (s : HartState) (memory other : List ℕ) (event : Event) (wanted : DataAccess) (place : ℕ) (after : Virtual)
+    → access_over memory s wanted.address wanted.width (kind_of wanted.purpose) ≡ At place
+    → found_over memory s wanted.address wanted.width (kind_of wanted.purpose) ≡ []
+    → after ≡ (completed (reading_of_memory memory) s.virt wanted.width wanted.purpose place).state
+    → other ≡ with_stored 0 (completed (reading_of_memory memory) s.virt wanted.width wanted.purpose place).stored memory
+    → attempt_of (caching_found s (found_over memory s wanted.address wanted.width (kind_of wanted.purpose))) memory (accessed_data (mmu_on s memory) s.virt event wanted) ≡ Makes (record s { virt = after }) other event
+kept_ends s memory other event wanted place after at none state stored =
+    let found = found_over memory s wanted.address wanted.width (kind_of wanted.purpose) in
+    ends_at s s memory other (all_filled s.virt.first found) event wanted place after at (ap (caching s) (nothing_filled s.virt.first found none)) state stored

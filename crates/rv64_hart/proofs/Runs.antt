@@ -1,6 +1,18 @@
 -- Runs of the hart, a step at a time.
-use Rattle.std.proofs.Common.{◌≡◌, ℕ, zero, suc, ◌+◌, ◌≤◌, Option, Some, Bool, refl, arith}
-use Rattle.rv64_hart.specs.Steps.{Progress, one_more_step, hart_steps}
+use Rattle.std.specs.Prelude.{option_and_then}
+use Rattle.std.proofs.Common.{◌≡◌, ℕ, zero, suc, ◌+◌, ◌%◌, ◌^◌, ◌≤◌, List, Option, Some, None, Bool, false, refl, arith, ap, ◌∙◌}
+use Rattle.arch_defs.specs.declared.hart_states.HartState.{HartState}
+use Rattle.arch_defs.specs.Interrupts.{due}
+use Rattle.machine_defs.specs.Core.{core}
+use Rattle.arch_defs.specs.declared.modes.Trap.{Trap}
+use Rattle.machine_defs.specs.declared.events.Event.TheVariants as event
+use Rattle.rv64_hart.specs.declared.endings.Ended.{Ended}
+use Rattle.rv64_hart.specs.declared.endings.Ended.TheVariants.{Plain, System, Raised}
+use Rattle.rv64_hart.specs.Counts.{Counts}
+use Rattle.rv64_hart.specs.Endings.{IfRaised, IsNext, KeepsContext, RunsOn, Tells, attempt_of_word, one_of, told_by, told_of}
+use Rattle.rv64_hart.specs.MachineMemory.{mmu_on}
+use Rattle.rv64_hart.specs.Steps.{Makes, Progress, attempt_of, found_at_exit, hart_step, hart_steps, next_attempt, one_more_step, progress, caching_found, with_found_on}
+use Rattle.rv64_hart.proofs.Told.{goes_on}
 
 -- no steps
 pub steps_none : (watch : Bool) (n : ℕ) (p : Progress) → n ≤ 0 → hart_steps watch n p ≡ Some p
@@ -8,7 +20,70 @@ unfolding hart_steps
 steps_none watch zero p h = refl
 steps_none watch (suc n) p h = absurd (omega arith)
 
--- and one more
+-- one more
 pub steps_more : (watch : Bool) (n m : ℕ) (p q : Progress) (r : Option Progress) → m ≡ n + 1 → hart_steps watch n p ≡ Some q → one_more_step watch q ≡ r → hart_steps watch m p ≡ r
 unfolding hart_steps
 steps_more watch n m p q r e h one = let s : n + 1 ≡ suc n = omega arith in rw (e, s, h) one
+
+-- and more of them
+pub steps_on : (watch : Bool) (m n k : ℕ) (p q : Progress) (r : Option Progress) → k ≡ m + n → hart_steps watch m p ≡ Some q → hart_steps watch n q ≡ r → hart_steps watch k p ≡ r
+unfolding hart_steps
+steps_on watch m zero k p q r e h t = let s : k ≡ m = omega arith in rw s (h ∙ t)
+steps_on watch m (suc n) k p q r e h t = let s : k ≡ suc (m + n) = omega arith in
+    rw s (ap (option_and_then (one_more_step watch)) (steps_on watch m n (m + n) p q (hart_steps watch n q) refl h refl) ∙ t)
+
+-- an instruction that is made is a step where no interrupt is due
+pub makes_step : (watch : Bool) (s : HartState) (memory : List ℕ) (trace : ℕ) (after : HartState) (changed : List ℕ) (raised : ℕ)
+    → due s.virt.csrs s.virt.mode ≡ None
+    → told_of trace (attempt_of (with_found_on s memory) memory (core (mmu_on s memory) s.virt)) ≡ Tells after changed raised false
+    → one_more_step watch (progress s memory trace false) ≡ Some (progress after changed raised false)
+unfolding hart_step one_more_step
+makes_step watch s memory trace after changed raised none told =
+    goes_on watch trace (caching_found s (found_at_exit s memory)) memory (next_attempt s memory (due s.virt.csrs s.virt.mode)) after changed raised
+    (rw none told)
+
+-- so it runs on
+pub runs_one : (n : ℕ) (s : HartState) (memory : List ℕ) (trace : ℕ) (after : HartState) (changed : List ℕ) (raised : ℕ)
+    → n ≡ 1 → due s.virt.csrs s.virt.mode ≡ None
+    → told_of trace (attempt_of (with_found_on s memory) memory (core (mmu_on s memory) s.virt)) ≡ Tells after changed raised false
+    → RunsOn n s memory trace after changed raised
+runs_one n s memory trace after changed raised is none told watch =
+    steps_more watch 0 n (progress s memory trace false) (progress s memory trace false) (Some (progress after changed raised false)) is
+    (steps_none watch 0 (progress s memory trace false) (omega arith)) (makes_step watch s memory trace after changed raised none told)
+
+pub runs_more : (n m : ℕ) (s : HartState) (memory : List ℕ) (trace : ℕ) (between : HartState) (held : List ℕ) (sum : ℕ) (after : HartState) (changed : List ℕ) (raised : ℕ)
+    → m ≡ n + 1 → RunsOn n s memory trace between held sum → due between.virt.csrs between.virt.mode ≡ None
+    → told_of sum (attempt_of (with_found_on between held) held (core (mmu_on between held) between.virt)) ≡ Tells after changed raised false
+    → RunsOn m s memory trace after changed raised
+runs_more n m s memory trace between held sum after changed raised is before none told watch =
+    steps_more watch n m (progress s memory trace false) (progress between held sum false) (Some (progress after changed raised false)) is
+    (before watch) (makes_step watch between held sum after changed raised none told)
+
+pub runs_both : (m n k : ℕ) (s : HartState) (memory : List ℕ) (trace : ℕ) (between : HartState) (held : List ℕ) (sum : ℕ) (after : HartState) (changed : List ℕ) (raised : ℕ)
+    → k ≡ m + n → RunsOn m s memory trace between held sum → RunsOn n between held sum after changed raised
+    → RunsOn k s memory trace after changed raised
+runs_both m n k s memory trace between held sum after changed raised is first second watch =
+    steps_on watch m n k (progress s memory trace false) (progress between held sum false) (Some (progress after changed raised false)) is (first watch) (second watch)
+
+-- an instruction by how it ended
+pub runs_by : (end : Ended) (n : ℕ) (s : HartState) (memory : List ℕ) (counts : Counts) (trap : Trap) (after : HartState) (changed : List ℕ) (raised : Counts)
+    → n ≡ one_of end → due s.virt.csrs s.virt.mode ≡ None
+    → told_of counts.trace (attempt_of (with_found_on s memory) memory (core (mmu_on s memory) s.virt)) ≡ told_by end trap after changed raised.trace
+    → IfRaised end ((after ≡ s) × (changed ≡ memory) × (raised ≡ counts))
+    → RunsOn n s memory counts.trace after changed raised.trace
+runs_by Plain n s memory counts trap after changed raised is none told stays = runs_one n s memory counts.trace after changed raised.trace is none told
+runs_by System n s memory counts trap after changed raised is none told stays = runs_one n s memory counts.trace after changed raised.trace is none told
+runs_by Raised n s memory counts trap after changed raised is none told (a, b, e) = λ watch.
+    rw (a, b, e) (steps_none watch n (progress s memory counts.trace false) (omega (arith, is)))
+
+-- a common one
+pub runs_common : (n m : ℕ) (s : HartState) (memory : List ℕ) (trace : ℕ) (between : HartState) (held : List ℕ) (sum : ℕ) (after : HartState) (changed : List ℕ) (raised word : ℕ)
+    → m ≡ n + 1 → RunsOn n s memory trace between held sum → KeepsContext s.virt between.virt → due s.virt.csrs s.virt.mode ≡ None → IsNext word between held
+    → attempt_of_word between held word ≡ Makes after changed (event.Plain between.virt.regs.pc word)
+    → raised ≡ (sum + (between.virt.regs.pc + word) % 2 ^ 64) % 2 ^ 64
+    → RunsOn m s memory trace after changed raised
+runs_common n m s memory trace between held sum after changed raised word is before (csrs, mode) none next made adds =
+    let due_between : due between.virt.csrs between.virt.mode ≡ None = rw (csrs, mode) none in
+    let same : (sum + (between.virt.regs.pc + word)) % 2 ^ 64 ≡ raised = omega (arith, adds) in
+    runs_more n m s memory trace between held sum after changed raised is before due_between
+    (ap (told_of sum) (next ∙ made) ∙ ap (λ t. Tells after changed t false) same)

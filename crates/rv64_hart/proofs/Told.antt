@@ -1,13 +1,11 @@
 -- Steps by what is told of them.
 use Rattle.std.proofs.Common.{◌≡◌, ℕ, ◌+◌, ◌%◌, ◌^◌, ◌<◌, List, Option, Some, Bool, true, false, refl, arith, ap, ◌∙◌}
 use Rattle.arch_defs.specs.declared.hart_states.HartState.{HartState}
-use Rattle.arch_defs.specs.declared.modes.Trap.{Trap}
-use Rattle.arch_defs.specs.Traps.{target}
 use Rattle.op_defs.specs.Table.{is_system}
 use Rattle.machine_defs.specs.declared.events.Event.TheVariants.{System}
 use Rattle.machine_defs.specs.Core.{event_of}
-use Rattle.rv64_hart.specs.Endings.{Tells, TellsTrap, told_of}
-use Rattle.rv64_hart.specs.Steps.{Attempt, Makes, Raises, Progress, end_by, progress, progressed, trapped_to}
+use Rattle.rv64_hart.specs.Endings.{Tells, told_of}
+use Rattle.rv64_hart.specs.Steps.{Attempt, Makes, Raises, end_by, progress, progressed}
 
 -- a step that adds nothing to the trace
 pub nothing_added : (trace : ℕ) → trace < 2 ^ 64 → (trace + 0) % 2 ^ 64 ≡ trace
@@ -31,14 +29,3 @@ pub goes_on : (watch : Bool) (trace : ℕ) (old : HartState) (before : List ℕ)
 goes_on true trace old before (Makes s m made) state memory after e = cc
 goes_on false trace old before (Makes s m made) state memory after e = cc
 goes_on watch trace old before (Raises trap) state memory after e = absurd (cc)
-
--- one that raises a trap
-pub raises : (trace : ℕ) (attempt : Attempt) (trap : Trap) → told_of trace attempt ≡ TellsTrap trap → attempt ≡ Raises trap
-raises trace (Makes s m made) trap e = absurd (cc)
-raises trace (Raises own) trap e = cc
-
-pub trap_goes : (watch : Bool) (trace : ℕ) (old : HartState) (before : List ℕ) (attempt : Attempt) (trap : Trap)
-    (r : Option Progress) → told_of trace attempt ≡ TellsTrap trap
-    → progressed watch trace (trapped_to old before trap (target old.virt.csrs old.virt.mode trap)) ≡ r
-    → progressed watch trace (end_by old before attempt) ≡ r
-trap_goes watch trace old before attempt trap r e p = rw (raises trace attempt trap e) p

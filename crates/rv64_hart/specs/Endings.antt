@@ -1,5 +1,5 @@
 -- What the functions inside a run of the hart answer, in a byte each; a trap is told apart.
-use Rattle.std.specs.Prelude.{ℕ, ◌≡◌, ◌+◌, ◌%◌, ◌^◌, List, Option, Some, None, Bool, true, false, ⊤}
+use Rattle.std.specs.Prelude.{ℕ, ◌≡◌, ◌+◌, ◌%◌, ◌^◌, ◌<◌, ◌≤◌, List, Option, Some, None, Bool, true, false, ⊤}
 use Rattle.arch_defs.specs.declared.first.FirstEntry.{FirstEntry}
 use Rattle.arch_defs.specs.declared.hart_states.HartState.{HartState}
 use Rattle.arch_defs.specs.declared.modes.Mode.{Mode}
@@ -13,7 +13,7 @@ use Rattle.op_defs.specs.declared.ops.Effect.{Effect}
 use Rattle.op_defs.specs.Table.{op_of}
 use Rattle.machine_defs.specs.declared.events.Event.{Event}
 use Rattle.machine_defs.specs.declared.events.Event.TheVariants as event
-use Rattle.machine_defs.specs.Core.{Located, At, at_place, executed, instruction}
+use Rattle.machine_defs.specs.Core.{Located, At, at_place, core, executed, instruction}
 use Rattle.machine_defs.specs.FirstLeaves.{found_by_effect, found_by_op}
 use Rattle.machine_defs.specs.Outcomes.{Outcome}
 use Rattle.machine_defs.specs.Runs.{pc_and_word}
@@ -23,7 +23,7 @@ use Rattle.rv64_hart.specs.declared.endings.Ended.TheVariants.{Plain, System, Ra
 use Rattle.rv64_hart.specs.declared.endings.StepEnd.{StepEnd}
 use Rattle.rv64_hart.specs.declared.endings.StepEnd.TheVariants.{Continues, Ends, Left}
 use Rattle.rv64_hart.specs.MachineMemory.{mmu_on}
-use Rattle.rv64_hart.specs.Steps.{Attempt, Makes, Raises, attempt_of, caching, Progress, enters_vs, caching_found}
+use Rattle.rv64_hart.specs.Steps.{Attempt, Makes, Raises, attempt_of, caching, Progress, enters_vs, hart_steps, progress, caching_found, with_found_on}
 
 -- where an access is made, by the answer; where it is not, the trap that it is to the hart, whatever has been
 -- found by then, and whatever it is for and is to follow there
@@ -57,6 +57,16 @@ attempt_with found s memory word effect =
     let after = caching_found (caching_found s found)
     (found_by_effect s.tag (mmu_on s memory) s.virt effect) in
     attempt_of after memory (executed (mmu_on s memory) s.virt word effect)
+
+-- a word is that of the next instruction, whose own access at pc finds nothing
+abbrev pub IsNext : ℕ → HartState → List ℕ → Type 0
+IsNext word s memory = attempt_of (with_found_on s memory) memory (core (mmu_on s memory) s.virt)
+    ≡ attempt_of_word s memory word
+
+-- so many steps lead from a state, memory and trace to others, and none of them is a trap
+abbrev pub RunsOn : ℕ → HartState → List ℕ → ℕ → HartState → List ℕ → ℕ → Type 0
+RunsOn n s memory trace after changed raised = (watch : Bool)
+    → hart_steps watch n (progress s memory trace false) ≡ Some (progress after changed raised false)
 
 -- what a step asks for, by how its instruction ended, the trap that is told apart, the event that the step is
 -- where the instruction is a plain one, and the state and memory after it
@@ -101,11 +111,50 @@ counted_of Continues p = Some (p false)
 counted_of Ends p = Some (p true)
 counted_of Left p = None
 
+-- how many instructions were made of as many as may be, by how the last one ended
+abbrev pub IsStretch : ℕ → ℕ → Ended → Type 0
+IsStretch most made Plain = (0 < made) × (made ≤ most)
+IsStretch most made System = (0 < made) × (made ≤ most)
+IsStretch most made Raised = made < most
+
+-- and of common ones, by the word before which they ended
+abbrev pub IsCommonStretch : ℕ → ℕ → Option ℕ → Type 0
+IsCommonStretch most made (Some word) = made < most
+IsCommonStretch most made None = (0 < made) × (made ≤ most)
+
+-- whether an instruction was made that is none of opcode SYSTEM, and how many are made with it
+abbrev pub is_plain_end : Ended → Bool
+is_plain_end Plain = true
+is_plain_end System = false
+is_plain_end Raised = false
+
+abbrev pub one_of : Ended → ℕ
+one_of Plain = 1
+one_of System = 1
+one_of Raised = 0
+
+-- whether the run ends here for a trap into VS
+abbrev pub ends_run : StepEnd → Bool
+ends_run Continues = false
+ends_run Ends = true
+ends_run Left = false
+
+-- how many steps were made of as many as may be, by how the last one ended
+abbrev pub HasMade : ℕ → ℕ → StepEnd → Type 0
+HasMade most made Continues = (0 < made) × (made ≤ most)
+HasMade most made Ends = made ≤ most
+HasMade most made Left = made < most
+
 -- where the step is not made
 abbrev pub IfLeft : StepEnd → Type 0 → Type 0
 IfLeft Continues P = ⊤
 IfLeft Ends P = ⊤
 IfLeft Left P = P
+
+-- where an instruction is made
+abbrev pub IfMade : Bool → Type 0 → Type 0
+IfMade true P = P
+IfMade false P = ⊤
 
 -- unless a condition holds
 abbrev pub Unless : Bool → Type 0 → Type 0

@@ -2,21 +2,22 @@
 
 ghost use Rattle.std.specs.Prelude.{◌≡◌, [], option_map, IfNone, IfSome};
 ghost use Rattle.arch_defs.specs.FirstEntries.{HasGuestFrame};
-ghost use Rattle.arch_defs.specs.Memory.{machine_memory};
+ghost use Rattle.arch_defs.specs.Memory.{machine_memory, with_stored};
+ghost use Rattle.arch_defs.specs.Registers.{passed};
 ghost use Rattle.op_defs.specs.declared.ops.Purpose.TheVariants.{Load, Store};
 ghost use Rattle.machine_defs.specs.declared.events.Event.{Event};
-ghost use Rattle.machine_defs.specs.Core.{At, accessed_data, kind_of, word_at};
+ghost use Rattle.machine_defs.specs.Core.{At, accessed_data, kind_of, storing, word_at};
 ghost use Rattle.machine_defs.specs.FirstLeaves.{entries_of};
 ghost use Rattle.data_access.specs.Places.{IsPlaceFor};
 ghost use Rattle.translation_buffer.specs.Serving.{ServesHart};
-ghost use Rattle.rv64_hart.specs.Endings.{IfPlain, IfRaised, IsAnswered, KeepsContext, attempt_by};
+ghost use Rattle.rv64_hart.specs.Endings.{IfMade, IfPlain, IfRaised, IsAnswered, KeepsContext, Unless, attempt_by};
 ghost use Rattle.rv64_hart.specs.MachineMemory.{access_over, found_over, mmu_on, reading_of_memory};
-ghost use Rattle.rv64_hart.specs.Steps.{attempt_of, caching_found};
+ghost use Rattle.rv64_hart.specs.Steps.{Makes, attempt_of, caching_found};
 
 use crate::endings::Ended;
 use crate::leaves::cache;
 use crate::walked_accesses::reach;
-use arch_defs::{Access, FirstEntry, HartState, Reg, Trap, Width};
+use arch_defs::{Access, FirstEntry, HartState, Reg, Trap, Virtual, Width};
 use data_access::{DataAccess, complete, is_aligned, kind_of, load, store};
 use phys_mem::{Mem, PhysMem};
 use translation_buffer::Buffer;
@@ -58,10 +59,56 @@ pub fn kept_place(
     }
 }
 
+/// The same by what is kept alone.
+#[inline(always)]
+#[tactic(auto, using(crate::proofs::Places::at_place_found, crate::proofs::Places::nothing_found, data_access::proofs::Fitting::fits_at))]
+fn found_place(
+    state: &HartState,
+    memory: &PhysMem,
+    buffer: &Buffer,
+    va: u64,
+    width: Width,
+    access: Access,
+) -> Option<u64>
+    requires serves { ServesHart buffer.now state.now memory.now }
+    ensures located { IfSome result
+        (λ place. access_over memory.now state.now va width access ≡ At place) }
+    ensures none { IfSome result
+        (λ place. found_over memory.now state.now va width access ≡ []) }
+    ensures place { IfSome result (λ place. IsPlaceFor (machine_memory memory.now) width place) }
+{
+    memory.is_whole();
+    if !is_aligned(va, width) {
+        return None;
+    }
+    match buffer.kept(memory, state, va, access) {
+        Some(place) => Some(place),
+        None => None,
+    }
+}
+
+/// Where the instruction at pc is whose access finds nothing, by the page of the last fetch.
+#[inline(always)]
+#[tactic(auto, using(crate::proofs::Places::nothing_found, data_access::proofs::Fitting::fits_at))]
+pub fn last_place(state: &HartState, memory: &PhysMem, buffer: &Buffer, pc: u64) -> Option<u64>
+    requires serves { ServesHart buffer.now state.now memory.now }
+    ensures located { IfSome result
+        (λ place. access_over memory.now state.now pc Width.Word Access.Fetch ≡ At place) }
+    ensures none { IfSome result
+        (λ place. found_over memory.now state.now pc Width.Word Access.Fetch ≡ []) }
+    ensures place { IfSome result
+        (λ place. IsPlaceFor (machine_memory memory.now) Width.Word place) }
+{
+    memory.is_whole();
+    match buffer.here(memory, state, pc) {
+        Some(place) => Some(place),
+        None => None,
+    }
+}
+
 /// Where the instruction at pc is whose access finds nothing, by the page of the last fetch, and else by the
 /// buffer.
 #[inline(always)]
-#[tactic(auto, using(crate::proofs::Places::nothing_found, data_access::proofs::Fitting::fits_at))]
 pub fn fetch_place(state: &HartState, memory: &PhysMem, buffer: &mut Buffer, pc: u64) -> Option<u64>
     requires serves { ServesHart buffer.old state.now memory.now }
     ensures located { IfSome result
@@ -72,8 +119,7 @@ pub fn fetch_place(state: &HartState, memory: &PhysMem, buffer: &mut Buffer, pc:
         (λ place. IsPlaceFor (machine_memory memory.now) Width.Word place) }
     ensures serves { ServesHart buffer.new state.now memory.now }
 {
-    memory.is_whole();
-    match buffer.here(memory, state, pc) {
+    match last_place(state, memory, buffer, pc) {
         Some(place) => Some(place),
         None => turned(state, memory, buffer, pc),
     }
@@ -230,39 +276,134 @@ pub fn access_data_anew(
     }
 }
 
-/// A load. Each width has a call of its own, which the compiler joins to the decoder's arm of that width.
+/// A load, if its place is kept. Each width has a call of its own, which the compiler joins to the decoder's
+/// arm of that width.
 #[inline(always)]
-pub fn load_data(
+pub fn load_kept(
     state: &mut HartState,
     memory: &PhysMem,
-    buffer: &mut Buffer,
+    buffer: &Buffer,
     at: u64,
     width: Width,
     signed: bool,
     rd: Reg,
-    trap: &mut Trap,
-) -> Ended
-    requires serves { ServesHart buffer.old state.old memory.now }
-    ensures ends { (event : Event) → attempt_of (caching_found state.old
+) -> bool
+    requires serves { ServesHart buffer.now state.old memory.now }
+    ensures made { (event : Event) → IfMade result (attempt_of (caching_found state.old
         (found_over memory.now state.old at width Access.Load)) memory.now
         (accessed_data (mmu_on state.old memory.now) state.old.virt event
         (record { address = at; width = width; purpose = Load signed rd }))
-        ≡ attempt_by result trap.new event state.new memory.now }
-    ensures stays { IfRaised result (state.new ≡ state.old) }
-    ensures serves { ServesHart buffer.new state.new memory.now }
-    ensures plain { IfPlain result (KeepsContext state.old.virt state.new.virt) }
+        ≡ Makes state.new memory.now event) }
+    ensures stays { Unless result (state.new ≡ state.old) }
+    ensures serves { ServesHart buffer.now state.new memory.now }
+    ensures context { KeepsContext state.old.virt state.new.virt }
 {
-    match width {
-        Width::Byte => load_sized(state, memory, buffer, at, Width::Byte, signed, rd, trap),
-        Width::Half => load_sized(state, memory, buffer, at, Width::Half, signed, rd, trap),
-        Width::Word => load_sized(state, memory, buffer, at, Width::Word, signed, rd, trap),
-        Width::Double => load_sized(state, memory, buffer, at, Width::Double, signed, rd, trap),
+    match (width, signed) {
+        (Width::Byte, true) => load_sized(state, memory, buffer, at, Width::Byte, true, rd),
+        (Width::Half, true) => load_sized(state, memory, buffer, at, Width::Half, true, rd),
+        (Width::Word, true) => load_sized(state, memory, buffer, at, Width::Word, true, rd),
+        (Width::Double, true) => load_sized(state, memory, buffer, at, Width::Double, true, rd),
+        (Width::Byte, false) => load_sized(state, memory, buffer, at, Width::Byte, false, rd),
+        (Width::Half, false) => load_sized(state, memory, buffer, at, Width::Half, false, rd),
+        (Width::Word, false) => load_sized(state, memory, buffer, at, Width::Word, false, rd),
+        (Width::Double, false) => load_sized(state, memory, buffer, at, Width::Double, false, rd),
     }
 }
 
 // A load of a width.
 #[inline(always)]
 fn load_sized(
+    state: &mut HartState,
+    memory: &PhysMem,
+    buffer: &Buffer,
+    at: u64,
+    width: Width,
+    signed: bool,
+    rd: Reg,
+) -> bool
+    requires serves { ServesHart buffer.now state.old memory.now }
+    ensures made { (event : Event) → IfMade result (attempt_of (caching_found state.old
+        (found_over memory.now state.old at width Access.Load)) memory.now
+        (accessed_data (mmu_on state.old memory.now) state.old.virt event
+        (record { address = at; width = width; purpose = Load signed rd }))
+        ≡ Makes state.new memory.now event) }
+    ensures stays { Unless result (state.new ≡ state.old) }
+    ensures serves { ServesHart buffer.now state.new memory.now }
+    ensures context { KeepsContext state.old.virt state.new.virt }
+{
+    match found_place(state, memory, buffer, at, width, Access::Load) {
+        Some(place) => {
+            load(memory, &mut state.virt, width, signed, rd, place);
+            true
+        }
+        None => false,
+    }
+}
+
+/// A store, if its place is kept and nothing that is kept was read by its frame. Each width has a call of its
+/// own, as those of a load have.
+#[inline(always)]
+pub fn store_kept(
+    state: &mut HartState,
+    memory: &mut PhysMem,
+    buffer: &Buffer,
+    address: u64,
+    width: Width,
+    value: u64,
+) -> bool
+    requires serves { ServesHart buffer.now state.old memory.old }
+    ensures made { (event : Event) → IfMade result (attempt_of (caching_found state.old
+        (found_over memory.old state.old address width Access.Store)) memory.old
+        (accessed_data (mmu_on state.old memory.old) state.old.virt event
+        (record { address = address; width = width; purpose = Store value }))
+        ≡ Makes state.new memory.new event) }
+    ensures stays { Unless result ((state.new ≡ state.old) × (memory.new ≡ memory.old)) }
+    ensures serves { ServesHart buffer.now state.new memory.new }
+    ensures context { KeepsContext state.old.virt state.new.virt }
+{
+    match width {
+        Width::Byte => store_sized(state, memory, buffer, address, Width::Byte, value),
+        Width::Half => store_sized(state, memory, buffer, address, Width::Half, value),
+        Width::Word => store_sized(state, memory, buffer, address, Width::Word, value),
+        Width::Double => store_sized(state, memory, buffer, address, Width::Double, value),
+    }
+}
+
+// A store of a width.
+#[inline(always)]
+fn store_sized(
+    state: &mut HartState,
+    memory: &mut PhysMem,
+    buffer: &Buffer,
+    address: u64,
+    width: Width,
+    value: u64,
+) -> bool
+    requires serves { ServesHart buffer.now state.old memory.old }
+    ensures made { (event : Event) → IfMade result (attempt_of (caching_found state.old
+        (found_over memory.old state.old address width Access.Store)) memory.old
+        (accessed_data (mmu_on state.old memory.old) state.old.virt event
+        (record { address = address; width = width; purpose = Store value }))
+        ≡ Makes state.new memory.new event) }
+    ensures stays { Unless result ((state.new ≡ state.old) × (memory.new ≡ memory.old)) }
+    ensures serves { ServesHart buffer.now state.new memory.new }
+    ensures context { KeepsContext state.old.virt state.new.virt }
+{
+    match found_place(state, memory, buffer, address, width, Access::Store) {
+        Some(place) => {
+            if buffer.has_read(place) {
+                return false;
+            }
+            store_at(memory, &mut state.virt, width, value, place);
+            true
+        }
+        None => false,
+    }
+}
+
+/// A load whose place may not be kept.
+#[inline(never)]
+pub fn load_anew(
     state: &mut HartState,
     memory: &PhysMem,
     buffer: &mut Buffer,
@@ -291,38 +432,9 @@ fn load_sized(
     }
 }
 
-/// A store. Each width has a call of its own, as those of a load have.
-#[inline(always)]
-pub fn store_data(
-    state: &mut HartState,
-    memory: &mut PhysMem,
-    buffer: &mut Buffer,
-    address: u64,
-    width: Width,
-    value: u64,
-    trap: &mut Trap,
-) -> Ended
-    requires serves { ServesHart buffer.old state.old memory.old }
-    ensures ends { (event : Event) → attempt_of (caching_found state.old
-        (found_over memory.old state.old address width Access.Store)) memory.old
-        (accessed_data (mmu_on state.old memory.old) state.old.virt event
-        (record { address = address; width = width; purpose = Store value }))
-        ≡ attempt_by result trap.new event state.new memory.new }
-    ensures stays { IfRaised result ((state.new ≡ state.old) × (memory.new ≡ memory.old)) }
-    ensures serves { ServesHart buffer.new state.new memory.new }
-    ensures plain { IfPlain result (KeepsContext state.old.virt state.new.virt) }
-{
-    match width {
-        Width::Byte => store_sized(state, memory, buffer, address, Width::Byte, value, trap),
-        Width::Half => store_sized(state, memory, buffer, address, Width::Half, value, trap),
-        Width::Word => store_sized(state, memory, buffer, address, Width::Word, value, trap),
-        Width::Double => store_sized(state, memory, buffer, address, Width::Double, value, trap),
-    }
-}
-
-// A store of a width.
-#[inline(always)]
-fn store_sized(
+/// A store whose place may not be kept.
+#[inline(never)]
+pub fn store_anew(
     state: &mut HartState,
     memory: &mut PhysMem,
     buffer: &mut Buffer,
@@ -349,4 +461,25 @@ fn store_sized(
         }
         None => Ended::Raised,
     }
+}
+
+// Completes a store at its place. pc goes into memory last, without being read again.
+#[inline(always)]
+fn store_at(memory: &mut PhysMem, state: &mut Virtual, width: Width, value: u64, place: u64)
+    requires place { IsPlaceFor (machine_memory memory.old) width place }
+    ensures state { state.new ≡ passed state.old }
+    ensures memory { memory.new ≡ with_stored 0 (storing place width value) memory.old }
+{
+    let next = state.regs.pc.wrapping_add(4);
+    put(memory, width, value, place);
+    state.regs.pc = next;
+}
+
+// Writes the low bytes of a value at a place.
+#[inline(always)]
+fn put(memory: &mut PhysMem, width: Width, value: u64, place: u64)
+    requires { IsPlaceFor (machine_memory memory.old) width place }
+    ensures { memory.new ≡ with_stored 0 (storing place width value) memory.old }
+{
+    memory.store(place, width.bytes(), value);
 }

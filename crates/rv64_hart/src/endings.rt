@@ -28,6 +28,27 @@ pub enum StepEnd {
     Left,
 }
 
+/// How many common instructions were made, and the word before which they ended, if that was for its sake.
+#[derive(Clone, Copy)]
+pub struct CommonStretch {
+    pub made: u64,
+    pub word: Option<u32>,
+}
+
+/// How many instructions were made, and how the last one ended, which is made unless it raised a trap.
+#[derive(Clone, Copy)]
+pub struct Stretch {
+    pub made: u64,
+    pub end: Ended,
+}
+
+/// How many steps were made, and how the last one ended.
+#[derive(Clone, Copy)]
+pub struct Round {
+    pub made: u64,
+    pub end: StepEnd,
+}
+
 /// Raises an exception of an instruction.
 #[cold]
 #[inline(never)]

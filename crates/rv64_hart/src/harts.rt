@@ -8,7 +8,7 @@ ghost use Rattle.rv64_hart.specs.Loans.{LendsState};
 ghost use Rattle.rv64_hart.specs.Steps.{hart_steps, progress, is_vs_trap, IsWhy};
 
 use crate::endings::StepEnd;
-use crate::steps::step;
+use crate::steps::round;
 use crate::tallies::Tally;
 use arch_defs::{HartState, Mode, Tag, Trap, Virtual};
 use phys_mem::PhysMem;
@@ -106,7 +106,8 @@ impl Hart {
 }
 
 // The steps of a run, which the tally gets.
-#[tactic(auto, using(crate::proofs::Runs::steps_none, crate::proofs::Runs::steps_more))]
+#[inline(never)]
+#[tactic(auto, using(crate::proofs::Runs::steps_none, crate::proofs::Runs::steps_on))]
 fn steps(
     state: &mut HartState,
     memory: &mut PhysMem,
@@ -127,13 +128,19 @@ fn steps(
 {
     let mut trap = Trap::of_interrupt(0);
     let mut quiet = false;
-    for taken in 0..limit {
-        match step(state, memory, buffer, watch, &mut quiet, tally, &mut trap) {
+    let mut taken = 0;
+    while taken < limit {
+        let most = limit - taken;
+        let round = round(
+            state, memory, buffer, most, watch, &mut quiet, tally, &mut trap,
+        );
+        taken += round.made;
+        match round.end {
             StepEnd::Continues => {}
             StepEnd::Ends => {
-                tally.take(taken + 1);
+                tally.take(taken);
                 return Stop {
-                    taken: taken + 1,
+                    taken,
                     why: Why::VsTrap,
                 };
             }

@@ -1,6 +1,6 @@
 // One step of the hart.
 
-ghost use Rattle.std.specs.Prelude.{◌≡◌, ◌^◌, ◌<◌, ℕ, List, Some, IfSome, IsTrue, false, option_map};
+ghost use Rattle.std.specs.Prelude.{◌≡◌, ◌^◌, ◌<◌, ◌≤◌, ℕ, List, Bool, Some, None, IfSome, IfNone, IsTrue, true, false, option_map};
 ghost use Rattle.arch_defs.specs.declared.first.FirstEntry.{FirstEntry};
 ghost use Rattle.arch_defs.specs.declared.first.Tag.{Tag};
 ghost use Rattle.arch_defs.specs.declared.hart_states.HartState.{HartState};
@@ -9,24 +9,25 @@ ghost use Rattle.arch_defs.specs.Interrupts.{due};
 ghost use Rattle.arch_defs.specs.Traps.{entered_at, is_virtual, target};
 ghost use Rattle.op_defs.specs.Meaning.{branch, jump, meaning};
 ghost use Rattle.op_defs.specs.Table.{is_system, op_of};
+ghost use Rattle.machine_defs.specs.declared.events.Event.TheVariants.{Plain};
 ghost use Rattle.machine_defs.specs.Core.{core, event_of};
 ghost use Rattle.machine_defs.specs.FirstLeaves.{entries_of};
 ghost use Rattle.arch_defs.specs.Registers.{sets, next};
 ghost use Rattle.translation_buffer.specs.Serving.{ServesHart};
 ghost use Rattle.rv64_hart.specs.Counts.{OnlyTrace};
-ghost use Rattle.rv64_hart.specs.Endings.{IfLeft, IfPlain, IfRaised, NoneDueIfQuiet, KeepsContext, attempt_at, attempt_by, attempt_of_effect, attempt_of_word, counted_of, told_by, told_of};
+ghost use Rattle.rv64_hart.specs.Endings.{HasMade, IfLeft, IfMade, IfPlain, IfRaised, IsCommonStretch, IsNext, IsStretch, NoneDueIfQuiet, KeepsContext, RunsOn, Unless, attempt_at, attempt_by, attempt_of_effect, attempt_of_word, counted_of, ends_run, is_plain_end, one_of, told_by, told_of};
 ghost use Rattle.rv64_hart.specs.MachineMemory.{mmu_on};
-ghost use Rattle.rv64_hart.specs.Steps.{Exits, attempt_of, found_at_exit, hart_step, next_attempt, one_more_step, progress, progressed, trapped_to, caching_found, with_found_on};
+ghost use Rattle.rv64_hart.specs.Steps.{Exits, Makes, Raises, attempt_of, found_at_exit, hart_step, hart_steps, next_attempt, one_more_step, progress, progressed, trapped_to, caching_found, with_found_on};
 
-use crate::accesses::{fetch_place, load_data, store_data, word_at};
-use crate::endings::{Ended, StepEnd, raise, raise_interrupt};
+use crate::accesses::{
+    fetch_place, last_place, load_anew, load_kept, store_anew, store_kept, word_at,
+};
+use crate::endings::{CommonStretch, Ended, Round, StepEnd, Stretch, raise_interrupt};
 use crate::leaves::{cache, found_at_exit};
 use crate::rare_instructions::{follow, is_system, rare};
 use crate::tallies::Tally;
 use crate::walked_accesses::reach;
-use arch_defs::{
-    Access, FirstEntry, HartState, INSTRUCTION_MISALIGNED, Level, Reg, Trap, Virtual, Width,
-};
+use arch_defs::{Access, FirstEntry, HartState, Level, Reg, Trap, Virtual, Width};
 use int_ops::{double_alu, word_alu};
 use op_defs::Op;
 use op_effects::{address_at, even, is_branch_taken};
@@ -35,37 +36,607 @@ use rv64_decode::decode_common;
 use translation_buffer::Buffer;
 use trap_delegation::{enter_vs, pending, target};
 
-/// Makes one step, which may be a trap into VS, unless it traps to HS; the tally gets its trace.
+/// Makes steps up to a number: a stretch of common instructions and what ends it, or a trap.
 #[inline(always)]
-#[tactic(auto, using(crate::proofs::Told::goes_on, crate::proofs::Told::raises, crate::proofs::Told::trap_goes), unfolding(crate::specs::Steps::hart_step, crate::specs::Steps::one_more_step))]
-pub fn step(
+#[tactic(auto, using(crate::proofs::Runs::steps_on, crate::proofs::Runs::steps_more))]
+pub fn round(
     state: &mut HartState,
     memory: &mut PhysMem,
     buffer: &mut Buffer,
+    most: u64,
     watch: bool,
     quiet: &mut bool,
     tally: &mut Tally,
     trap: &mut Trap,
-) -> StepEnd
+) -> Round
     requires serves { ServesHart buffer.old state.old memory.old }
     requires quiet { NoneDueIfQuiet quiet.old state.old.virt }
-    ensures steps { one_more_step watch (progress state.old memory.old tally.old.trace false)
-        ≡ counted_of result (progress state.new memory.new tally.new.trace) }
-    ensures exits { IfLeft result (hart_step state.new memory.new ≡ Exits trap.new) }
-    ensures stays { IfLeft result
-        ((state.new ≡ state.old) × (memory.new ≡ memory.old) × (tally.new ≡ tally.old)) }
+    requires some { 0 < most }
+    ensures steps { hart_steps watch result.made
+        (progress state.old memory.old tally.old.trace false)
+        ≡ Some (progress state.new memory.new tally.new.trace (ends_run result.end)) }
+    ensures exits { IfLeft result.end (hart_step state.new memory.new ≡ Exits trap.new) }
+    ensures made { HasMade most result.made result.end }
     ensures tally { OnlyTrace tally.old tally.new }
     ensures serves { ServesHart buffer.new state.new memory.new }
     ensures quiet { NoneDueIfQuiet quiet.new state.new.virt }
 {
-    let _ = tally.trace();
-    match attempt(state, memory, buffer, quiet, tally, trap) {
-        Ended::Plain | Ended::System => StepEnd::Continues,
+    let stretch = attempts(state, memory, buffer, most, quiet, tally, trap);
+    let made = stretch.made;
+    match stretch.end {
+        Ended::Plain | Ended::System => Round {
+            made,
+            end: StepEnd::Continues,
+        },
         Ended::Raised => {
+            let _ = tally.trace();
             *quiet = false;
-            trap_to_target(state, memory, buffer, watch, trap)
+            match trap_step(state, memory, buffer, watch, trap) {
+                StepEnd::Continues => Round {
+                    made: made + 1,
+                    end: StepEnd::Continues,
+                },
+                StepEnd::Ends => Round {
+                    made: made + 1,
+                    end: StepEnd::Ends,
+                },
+                StepEnd::Left => Round {
+                    made,
+                    end: StepEnd::Left,
+                },
+            }
         }
     }
+}
+
+// Makes instructions up to a number, and stops before one that raises a trap, and after one of opcode SYSTEM.
+#[inline(always)]
+#[tactic(auto, using(crate::proofs::Runs::steps_none))]
+fn attempts(
+    state: &mut HartState,
+    memory: &mut PhysMem,
+    buffer: &mut Buffer,
+    most: u64,
+    quiet: &mut bool,
+    tally: &mut Tally,
+    trap: &mut Trap,
+) -> Stretch
+    requires serves { ServesHart buffer.old state.old memory.old }
+    requires quiet { NoneDueIfQuiet quiet.old state.old.virt }
+    requires some { 0 < most }
+    ensures steps { RunsOn result.made state.old memory.old tally.old.trace
+        state.new memory.new tally.new.trace }
+    ensures raises { IfRaised result.end (next_attempt state.new memory.new
+        (due state.new.virt.csrs state.new.virt.mode) ≡ Raises trap.new) }
+    ensures made { IsStretch most result.made result.end }
+    ensures tally { OnlyTrace tally.old tally.new }
+    ensures serves { ServesHart buffer.new state.new memory.new }
+    ensures quiet { NoneDueIfQuiet quiet.new state.new.virt }
+{
+    match due_now(&state.virt, quiet) {
+        Some(code) => Stretch {
+            made: 0,
+            end: raise_interrupt(code, trap),
+        },
+        None => {
+            let stretch = instructions(state, memory, buffer, most, tally, trap);
+            *quiet = is_plain(stretch.end);
+            stretch
+        }
+    }
+}
+
+// Whether an instruction is made and leaves the registers by which an interrupt is due.
+#[inline(always)]
+fn is_plain(end: Ended) -> bool
+    ensures { result ≡ is_plain_end end }
+{
+    match end {
+        Ended::Plain => true,
+        Ended::System | Ended::Raised => false,
+    }
+}
+
+// The same where no interrupt is due.
+#[inline(always)]
+#[tactic(auto, using(crate::proofs::Runs::runs_both))]
+fn instructions(
+    state: &mut HartState,
+    memory: &mut PhysMem,
+    buffer: &mut Buffer,
+    most: u64,
+    tally: &mut Tally,
+    trap: &mut Trap,
+) -> Stretch
+    requires serves { ServesHart buffer.old state.old memory.old }
+    requires none { due state.old.virt.csrs state.old.virt.mode ≡ None }
+    requires some { 0 < most }
+    ensures steps { RunsOn result.made state.old memory.old tally.old.trace
+        state.new memory.new tally.new.trace }
+    ensures raises { IfRaised result.end (next_attempt state.new memory.new
+        (due state.new.virt.csrs state.new.virt.mode) ≡ Raises trap.new) }
+    ensures made { IsStretch most result.made result.end }
+    ensures tally { OnlyTrace tally.old tally.new }
+    ensures serves { ServesHart buffer.new state.new memory.new }
+    ensures plain { IfPlain result.end (KeepsContext state.old.virt state.new.virt) }
+{
+    match fetched(state, memory, buffer) {
+        Some(word) => {
+            let common = common_instructions(state, memory, buffer, word, most, tally);
+            match common.word {
+                Some(word) => {
+                    let last = last(state, memory, buffer, word, tally, trap);
+                    Stretch {
+                        made: common.made + last.made,
+                        end: last.end,
+                    }
+                }
+                None => Stretch {
+                    made: common.made,
+                    end: Ended::Plain,
+                },
+            }
+        }
+        None => first_anew(state, memory, buffer, tally, trap),
+    }
+}
+
+// The word of the next instruction, where its access at pc finds nothing.
+#[inline(always)]
+fn fetched(state: &HartState, memory: &PhysMem, buffer: &mut Buffer) -> Option<u32>
+    requires serves { ServesHart buffer.old state.now memory.now }
+    ensures next { IfSome result (λ word. IsNext word state.now memory.now) }
+    ensures serves { ServesHart buffer.new state.now memory.now }
+{
+    match fetch_place(state, memory, buffer, state.virt.regs.pc) {
+        Some(place) => Some(word_at(memory, place)),
+        None => None,
+    }
+}
+
+// The same by the page of the last fetch alone.
+#[inline(always)]
+fn next_word(state: &HartState, memory: &PhysMem, buffer: &Buffer) -> Option<u32>
+    requires serves { ServesHart buffer.now state.now memory.now }
+    ensures next { IfSome result (λ word. IsNext word state.now memory.now) }
+{
+    match last_place(state, memory, buffer, state.virt.regs.pc) {
+        Some(place) => Some(word_at(memory, place)),
+        None => None,
+    }
+}
+
+// One instruction as a stretch.
+#[inline(always)]
+fn one(end: Ended) -> Stretch
+    ensures end { result.end ≡ end }
+    ensures made { result.made ≡ one_of end }
+{
+    match end {
+        Ended::Plain | Ended::System => Stretch { made: 1, end },
+        Ended::Raised => Stretch { made: 0, end },
+    }
+}
+
+// An instruction with no kept translation of pc, as a stretch.
+#[inline(always)]
+#[tactic(auto, using(crate::proofs::Runs::runs_one))]
+fn first_anew(
+    state: &mut HartState,
+    memory: &mut PhysMem,
+    buffer: &mut Buffer,
+    tally: &mut Tally,
+    trap: &mut Trap,
+) -> Stretch
+    requires serves { ServesHart buffer.old state.old memory.old }
+    requires none { due state.old.virt.csrs state.old.virt.mode ≡ None }
+    ensures steps { RunsOn result.made state.old memory.old tally.old.trace
+        state.new memory.new tally.new.trace }
+    ensures raises { IfRaised result.end (next_attempt state.new memory.new
+        (due state.new.virt.csrs state.new.virt.mode) ≡ Raises trap.new) }
+    ensures made { result.made ≡ one_of result.end }
+    ensures tally { OnlyTrace tally.old tally.new }
+    ensures serves { ServesHart buffer.new state.new memory.new }
+    ensures plain { IfPlain result.end (KeepsContext state.old.virt state.new.virt) }
+{
+    one(instruction_anew(state, memory, buffer, tally, trap))
+}
+
+// The instruction of the next word, as a stretch.
+#[inline(always)]
+#[tactic(auto, using(crate::proofs::Runs::runs_one))]
+fn last(
+    state: &mut HartState,
+    memory: &mut PhysMem,
+    buffer: &mut Buffer,
+    word: u32,
+    tally: &mut Tally,
+    trap: &mut Trap,
+) -> Stretch
+    requires serves { ServesHart buffer.old state.old memory.old }
+    requires none { due state.old.virt.csrs state.old.virt.mode ≡ None }
+    requires next { IsNext word state.old memory.old }
+    ensures steps { RunsOn result.made state.old memory.old tally.old.trace
+        state.new memory.new tally.new.trace }
+    ensures raises { IfRaised result.end (next_attempt state.new memory.new
+        (due state.new.virt.csrs state.new.virt.mode) ≡ Raises trap.new) }
+    ensures made { result.made ≡ one_of result.end }
+    ensures tally { OnlyTrace tally.old tally.new }
+    ensures serves { ServesHart buffer.new state.new memory.new }
+    ensures plain { IfPlain result.end (KeepsContext state.old.virt state.new.virt) }
+{
+    one(ended(state, memory, buffer, word, tally, trap))
+}
+
+// The instruction of a word, whose own access at pc has found nothing. The tally gets the trace where it is made.
+#[inline(always)]
+#[tactic(auto, using(crate::proofs::FirstFound::word_ends))]
+fn ended(
+    state: &mut HartState,
+    memory: &mut PhysMem,
+    buffer: &mut Buffer,
+    word: u32,
+    tally: &mut Tally,
+    trap: &mut Trap,
+) -> Ended
+    requires serves { ServesHart buffer.old state.old memory.old }
+    ensures told { told_of tally.old.trace
+        (attempt_of_word state.old memory.old word)
+        ≡ told_by result trap.new state.new memory.new tally.new.trace }
+    ensures stays { IfRaised result
+        ((state.new ≡ state.old) × (memory.new ≡ memory.old) × (tally.new ≡ tally.old)) }
+    ensures tally { OnlyTrace tally.old tally.new }
+    ensures serves { ServesHart buffer.new state.new memory.new }
+    ensures plain { IfPlain result (KeepsContext state.old.virt state.new.virt) }
+{
+    if is_system(word) {
+        counted(state, memory, buffer, word, None, tally, trap)
+    } else {
+        missed(state, memory, buffer, word, tally, trap)
+    }
+}
+
+// The same where its data may not be kept.
+#[inline(never)]
+#[tactic(auto, using(crate::proofs::FirstFound::common_plain, crate::proofs::FirstFound::word_ends))]
+fn missed(
+    state: &mut HartState,
+    memory: &mut PhysMem,
+    buffer: &mut Buffer,
+    word: u32,
+    tally: &mut Tally,
+    trap: &mut Trap,
+) -> Ended
+    requires serves { ServesHart buffer.old state.old memory.old }
+    ensures told { told_of tally.old.trace
+        (attempt_of_word state.old memory.old word)
+        ≡ told_by result trap.new state.new memory.new tally.new.trace }
+    ensures stays { IfRaised result
+        ((state.new ≡ state.old) × (memory.new ≡ memory.old) × (tally.new ≡ tally.old)) }
+    ensures tally { OnlyTrace tally.old tally.new }
+    ensures serves { ServesHart buffer.new state.new memory.new }
+    ensures plain { IfPlain result (KeepsContext state.old.virt state.new.virt) }
+{
+    match decode_common(word) {
+        Some(op) => missed_common(state, memory, buffer, word, &op, tally, trap),
+        None => counted(state, memory, buffer, word, None, tally, trap),
+    }
+}
+
+// The instruction that a common word is, which is none of opcode SYSTEM.
+#[inline(always)]
+#[tactic(auto, using(crate::proofs::Told::system_told))]
+fn missed_common(
+    state: &mut HartState,
+    memory: &mut PhysMem,
+    buffer: &mut Buffer,
+    word: u32,
+    op: &Op,
+    tally: &mut Tally,
+    trap: &mut Trap,
+) -> Ended
+    requires op { op_of word ≡ Some op.now }
+    requires plain { is_system word ≡ false }
+    requires serves { ServesHart buffer.old state.old memory.old }
+    ensures told { told_of tally.old.trace
+        (attempt_of_effect state.old memory.old word (meaning op.now state.old.virt.regs))
+        ≡ told_by result trap.new state.new memory.new tally.new.trace }
+    ensures stays { IfRaised result
+        ((state.new ≡ state.old) × (memory.new ≡ memory.old) × (tally.new ≡ tally.old)) }
+    ensures tally { OnlyTrace tally.old tally.new }
+    ensures serves { ServesHart buffer.new state.new memory.new }
+    ensures plain { IfPlain result (KeepsContext state.old.virt state.new.virt) }
+{
+    let pc = state.virt.regs.pc;
+    let _ = tally.trace();
+    match missed_data(state, memory, buffer, word, op, trap) {
+        Ended::Plain => {
+            tally.count(pc, word);
+            Ended::Plain
+        }
+        Ended::System => Ended::System,
+        Ended::Raised => Ended::Raised,
+    }
+}
+
+// The same without the trace.
+#[inline(always)]
+#[tactic(auto, using(crate::proofs::FirstFound::rare_ends), unfolding(op_defs::specs::Meaning::meaning, arch_defs::specs::FirstEntries::all_filled))]
+fn missed_data(
+    state: &mut HartState,
+    memory: &mut PhysMem,
+    buffer: &mut Buffer,
+    word: u32,
+    op: &Op,
+    trap: &mut Trap,
+) -> Ended
+    requires op { op_of word ≡ Some op.now }
+    requires serves { ServesHart buffer.old state.old memory.old }
+    ensures ends { attempt_of_effect state.old memory.old word (meaning op.now state.old.virt.regs)
+        ≡ attempt_by result trap.new (event_of state.old.virt.regs.pc word) state.new memory.new }
+    ensures stays { IfRaised result ((state.new ≡ state.old) × (memory.new ≡ memory.old)) }
+    ensures serves { ServesHart buffer.new state.new memory.new }
+    ensures plain { IfPlain result (KeepsContext state.old.virt state.new.virt) }
+{
+    match *op {
+        Op::Load {
+            width,
+            signed,
+            rd,
+            rs1,
+            offset,
+        } => {
+            let address = address_at(&state.virt.regs, rs1, offset);
+            load_anew(state, memory, buffer, address, width, signed, rd, trap)
+        }
+        Op::Store {
+            width,
+            rs1,
+            rs2,
+            offset,
+        } => {
+            let address = address_at(&state.virt.regs, rs1, offset);
+            let value = state.virt.regs.read(rs2);
+            store_anew(state, memory, buffer, address, width, value, trap)
+        }
+        _ => rare(state, memory, buffer, word, None, trap),
+    }
+}
+
+// Common instructions up to a number from this word on, for as long as each is in the page of the last fetch
+// and its data are kept. pc goes into memory last in each step, and the trace after them all, so that the
+// compiler has both in registers.
+#[inline(always)]
+#[tactic(auto, using(crate::proofs::Runs::steps_none, crate::proofs::Runs::runs_common))]
+fn common_instructions(
+    state: &mut HartState,
+    memory: &mut PhysMem,
+    buffer: &Buffer,
+    first: u32,
+    most: u64,
+    tally: &mut Tally,
+) -> CommonStretch
+    requires serves { ServesHart buffer.now state.old memory.old }
+    requires none { due state.old.virt.csrs state.old.virt.mode ≡ None }
+    requires next { IsNext first state.old memory.old }
+    requires some { 0 < most }
+    ensures steps { RunsOn result.made state.old memory.old tally.old.trace
+        state.new memory.new tally.new.trace }
+    ensures next { IfSome result.word (λ word. IsNext word state.new memory.new) }
+    ensures made { IsCommonStretch most result.made result.word }
+    ensures tally { OnlyTrace tally.old tally.new }
+    ensures serves { ServesHart buffer.now state.new memory.new }
+    ensures context { KeepsContext state.old.virt state.new.virt }
+{
+    let mut word = first;
+    let mut trace = tally.trace();
+    for made in 0..most {
+        let pc = state.virt.regs.pc;
+        if !common(state, memory, buffer, word) {
+            tally.go_on_at(trace);
+            return CommonStretch {
+                made,
+                word: Some(word),
+            };
+        }
+        trace = trace.wrapping_add(pc.wrapping_add(word as u64));
+        match next_word(state, memory, buffer) {
+            Some(next) => word = next,
+            None => {
+                tally.go_on_at(trace);
+                return CommonStretch {
+                    made: made + 1,
+                    word: None,
+                };
+            }
+        }
+    }
+    tally.go_on_at(trace);
+    CommonStretch {
+        made: most,
+        word: None,
+    }
+}
+
+// The instruction of a word whose own access at pc has found nothing, if it is a common one, raises no trap,
+// and its data are kept.
+#[inline(always)]
+#[tactic(auto, using(crate::proofs::FirstFound::common_plain))]
+fn common(state: &mut HartState, memory: &mut PhysMem, buffer: &Buffer, word: u32) -> bool
+    requires serves { ServesHart buffer.now state.old memory.old }
+    ensures made { IfMade result (attempt_of_word state.old memory.old word
+        ≡ Makes state.new memory.new (Plain state.old.virt.regs.pc word)) }
+    ensures stays { Unless result ((state.new ≡ state.old) × (memory.new ≡ memory.old)) }
+    ensures serves { ServesHart buffer.now state.new memory.new }
+    ensures context { KeepsContext state.old.virt state.new.virt }
+{
+    match decode_common(word) {
+        Some(op) => made(state, memory, buffer, word, &op),
+        None => false,
+    }
+}
+
+// The same by what the word is.
+#[inline(always)]
+#[tactic(auto, unfolding(op_defs::specs::Meaning::meaning, arch_defs::specs::FirstEntries::all_filled))]
+fn made(state: &mut HartState, memory: &mut PhysMem, buffer: &Buffer, word: u32, op: &Op) -> bool
+    requires serves { ServesHart buffer.now state.old memory.old }
+    ensures made { IfMade result (attempt_of_effect state.old memory.old word
+        (meaning op.now state.old.virt.regs)
+        ≡ Makes state.new memory.new (event_of state.old.virt.regs.pc word)) }
+    ensures stays { Unless result ((state.new ≡ state.old) × (memory.new ≡ memory.old)) }
+    ensures serves { ServesHart buffer.now state.new memory.new }
+    ensures context { KeepsContext state.old.virt state.new.virt }
+{
+    match *op {
+        Op::Lui { rd, immediate } => sets(&mut state.virt, rd, immediate),
+        Op::Auipc { rd, immediate } => {
+            let value = state.virt.regs.pc.wrapping_add(immediate);
+            sets(&mut state.virt, rd, value)
+        }
+        Op::AluImmediate {
+            op,
+            rd,
+            rs1,
+            immediate,
+        } => {
+            let value = double_alu(op, state.virt.regs.read(rs1), immediate);
+            sets(&mut state.virt, rd, value)
+        }
+        Op::Alu { op, rd, rs1, rs2 } => {
+            let value = double_alu(op, state.virt.regs.read(rs1), state.virt.regs.read(rs2));
+            sets(&mut state.virt, rd, value)
+        }
+        Op::WordImmediate {
+            op,
+            rd,
+            rs1,
+            immediate,
+        } => {
+            let value = word_alu(op, state.virt.regs.read(rs1), immediate);
+            sets(&mut state.virt, rd, value)
+        }
+        Op::Word { op, rd, rs1, rs2 } => {
+            let value = word_alu(op, state.virt.regs.read(rs1), state.virt.regs.read(rs2));
+            sets(&mut state.virt, rd, value)
+        }
+        Op::Jal { rd, offset } => {
+            let to = state.virt.regs.pc.wrapping_add(offset);
+            jump(state, rd, to)
+        }
+        Op::Jalr { rd, rs1, offset } => {
+            let to = even(address_at(&state.virt.regs, rs1, offset));
+            jump(state, rd, to)
+        }
+        Op::Branch {
+            test,
+            rs1,
+            rs2,
+            offset,
+        } => {
+            let taken = is_branch_taken(test, state.virt.regs.read(rs1), state.virt.regs.read(rs2));
+            let to = state.virt.regs.pc.wrapping_add(offset);
+            branch(state, taken, to)
+        }
+        Op::Load {
+            width,
+            signed,
+            rd,
+            rs1,
+            offset,
+        } => {
+            let address = address_at(&state.virt.regs, rs1, offset);
+            load_kept(state, memory, buffer, address, width, signed, rd)
+        }
+        Op::Store {
+            width,
+            rs1,
+            rs2,
+            offset,
+        } => {
+            let address = address_at(&state.virt.regs, rs1, offset);
+            let value = state.virt.regs.read(rs2);
+            store_kept(state, memory, buffer, address, width, value)
+        }
+        _ => false,
+    }
+}
+
+// A register is set, and pc goes on.
+#[inline(always)]
+fn sets(state: &mut Virtual, rd: Reg, value: u64) -> bool
+    ensures state { state.new ≡ sets state.old rd value }
+    ensures made { result ≡ true }
+{
+    state.set(rd, value);
+    true
+}
+
+// A jump, which leaves the next pc in rd. One to an address that is no multiple of 4 is not made.
+#[inline(always)]
+#[tactic(auto, unfolding(arch_defs::specs::FirstEntries::all_filled))]
+fn jump(state: &mut HartState, rd: Reg, to: u64) -> bool
+    ensures made { (memory : List ℕ) (word : ℕ) → IfMade result (attempt_of_effect state.old memory word
+        (jump rd (next state.old.virt.regs) to)
+        ≡ Makes state.new memory (event_of state.old.virt.regs.pc word)) }
+    ensures stays { Unless result (state.new ≡ state.old) }
+    ensures keeps { KeepsContext state.old.virt state.new.virt }
+    ensures first { state.new.virt.first ≡ state.old.virt.first }
+    ensures tag { state.new.tag ≡ state.old.tag }
+{
+    if to % 4 == 0 {
+        let next = state.virt.regs.pc.wrapping_add(4);
+        state.virt.regs.advance(rd, next, to);
+        true
+    } else {
+        false
+    }
+}
+
+// A branch. One that is taken to an address that is no multiple of 4 is not made.
+#[inline(always)]
+#[tactic(auto, unfolding(arch_defs::specs::FirstEntries::all_filled))]
+fn branch(state: &mut HartState, taken: bool, to: u64) -> bool
+    ensures made { (memory : List ℕ) (word : ℕ) → IfMade result (attempt_of_effect state.old memory word
+        (branch taken (next state.old.virt.regs) to)
+        ≡ Makes state.new memory (event_of state.old.virt.regs.pc word)) }
+    ensures stays { Unless result (state.new ≡ state.old) }
+    ensures keeps { KeepsContext state.old.virt state.new.virt }
+    ensures first { state.new.virt.first ≡ state.old.virt.first }
+    ensures tag { state.new.tag ≡ state.old.tag }
+{
+    if !taken {
+        state.virt.pass();
+        true
+    } else if to % 4 == 0 {
+        state.virt.regs.advance(Reg::new(0), 0, to);
+        true
+    } else {
+        false
+    }
+}
+
+// A step that raises a trap.
+#[inline(always)]
+#[tactic(auto, unfolding(crate::specs::Steps::hart_step, crate::specs::Steps::one_more_step))]
+fn trap_step(
+    state: &mut HartState,
+    memory: &PhysMem,
+    buffer: &mut Buffer,
+    watch: bool,
+    trap: &Trap,
+) -> StepEnd
+    requires serves { ServesHart buffer.old state.old memory.now }
+    requires raises { next_attempt state.old memory.now
+        (due state.old.virt.csrs state.old.virt.mode) ≡ Raises trap.now }
+    ensures steps { (trace : ℕ) → trace < 2 ^ 64
+        → one_more_step watch (progress state.old memory.now trace false)
+        ≡ counted_of result (progress state.new memory.now trace) }
+    ensures exits { IfLeft result (hart_step state.new memory.now ≡ Exits trap.now) }
+    ensures stays { IfLeft result (state.new ≡ state.old) }
+    ensures serves { ServesHart buffer.new state.new memory.now }
+{
+    trap_to_target(state, memory, buffer, watch, trap)
 }
 
 // Takes a trap into VS, with what the step has found cached, and leaves one to HS.
@@ -123,41 +694,6 @@ fn take_into_vs(state: &mut Virtual, trap: &Trap)
     state.mode = enter_vs(&mut state.csrs, &mut state.regs, state.mode, trap);
 }
 
-// The due interrupt, or one instruction.
-#[tactic(auto, using(crate::proofs::Kept::quiet_kept))]
-#[inline(always)]
-fn attempt(
-    state: &mut HartState,
-    memory: &mut PhysMem,
-    buffer: &mut Buffer,
-    quiet: &mut bool,
-    tally: &mut Tally,
-    trap: &mut Trap,
-) -> Ended
-    requires serves { ServesHart buffer.old state.old memory.old }
-    requires quiet { NoneDueIfQuiet quiet.old state.old.virt }
-    ensures told { told_of tally.old.trace
-        (next_attempt state.old memory.old (due state.old.virt.csrs state.old.virt.mode))
-        ≡ told_by result trap.new state.new memory.new tally.new.trace }
-    ensures stays { IfRaised result
-        ((state.new ≡ state.old) × (memory.new ≡ memory.old) × (tally.new ≡ tally.old)) }
-    ensures tally { OnlyTrace tally.old tally.new }
-    ensures serves { ServesHart buffer.new state.new memory.new }
-    ensures quiet { NoneDueIfQuiet quiet.new state.new.virt }
-{
-    match due_now(&state.virt, quiet) {
-        Some(code) => raise_interrupt(code, trap),
-        None => match instruction(state, memory, buffer, tally, trap) {
-            Ended::Plain => Ended::Plain,
-            Ended::System => {
-                *quiet = false;
-                Ended::System
-            }
-            Ended::Raised => Ended::Raised,
-        },
-    }
-}
-
 // The interrupt that is due. While it is quiet, none is.
 #[inline(always)]
 fn due_now(state: &Virtual, quiet: &mut bool) -> Option<u64>
@@ -177,33 +713,7 @@ fn due_now(state: &Virtual, quiet: &mut bool) -> Option<u64>
     }
 }
 
-// One instruction.
-#[inline(always)]
-fn instruction(
-    state: &mut HartState,
-    memory: &mut PhysMem,
-    buffer: &mut Buffer,
-    tally: &mut Tally,
-    trap: &mut Trap,
-) -> Ended
-    requires serves { ServesHart buffer.old state.old memory.old }
-    ensures told { told_of tally.old.trace (attempt_of (with_found_on state.old memory.old) memory.old
-        (core (mmu_on state.old memory.old) state.old.virt))
-        ≡ told_by result trap.new state.new memory.new tally.new.trace }
-    ensures stays { IfRaised result
-        ((state.new ≡ state.old) × (memory.new ≡ memory.old) × (tally.new ≡ tally.old)) }
-    ensures tally { OnlyTrace tally.old tally.new }
-    ensures serves { ServesHart buffer.new state.new memory.new }
-    ensures plain { IfPlain result (KeepsContext state.old.virt state.new.virt) }
-{
-    let pc = state.virt.regs.pc;
-    match fetch_place(state, memory, buffer, pc) {
-        Some(place) => counted(state, memory, buffer, word_at(memory, place), tally, trap),
-        None => instruction_anew(state, memory, buffer, tally, trap),
-    }
-}
-
-// The same with no kept translation of pc.
+// One instruction with no kept translation of pc.
 #[cold]
 #[inline(never)]
 fn instruction_anew(
@@ -229,7 +739,7 @@ fn instruction_anew(
     match reach(state, memory, pc, width, access, trap, &mut entry) {
         Some(place) => {
             let found = entry.as_ref();
-            counted_anew(
+            counted(
                 state,
                 memory,
                 buffer,
@@ -243,73 +753,10 @@ fn instruction_anew(
     }
 }
 
-// The instruction of a word, whose own access at pc has found nothing. The tally gets the trace where it is
-// made.
-#[tactic(auto, using(crate::proofs::FirstFound::common_plain, crate::proofs::FirstFound::word_ends))]
-#[inline(always)]
-fn counted(
-    state: &mut HartState,
-    memory: &mut PhysMem,
-    buffer: &mut Buffer,
-    word: u32,
-    tally: &mut Tally,
-    trap: &mut Trap,
-) -> Ended
-    requires serves { ServesHart buffer.old state.old memory.old }
-    ensures told { told_of tally.old.trace
-        (attempt_of_word state.old memory.old word)
-        ≡ told_by result trap.new state.new memory.new tally.new.trace }
-    ensures stays { IfRaised result
-        ((state.new ≡ state.old) × (memory.new ≡ memory.old) × (tally.new ≡ tally.old)) }
-    ensures tally { OnlyTrace tally.old tally.new }
-    ensures serves { ServesHart buffer.new state.new memory.new }
-    ensures plain { IfPlain result (KeepsContext state.old.virt state.new.virt) }
-{
-    match decode_common(word) {
-        Some(op) => common(state, memory, buffer, word, &op, tally, trap),
-        None => counted_anew(state, memory, buffer, word, None, tally, trap),
-    }
-}
-
-// The instruction that a common word is, which is none of opcode SYSTEM.
-#[tactic(auto, using(crate::proofs::Told::system_told))]
-#[inline(always)]
-fn common(
-    state: &mut HartState,
-    memory: &mut PhysMem,
-    buffer: &mut Buffer,
-    word: u32,
-    op: &Op,
-    tally: &mut Tally,
-    trap: &mut Trap,
-) -> Ended
-    requires op { op_of word ≡ Some op.now }
-    requires plain { is_system word ≡ false }
-    requires serves { ServesHart buffer.old state.old memory.old }
-    ensures told { told_of tally.old.trace
-        (attempt_of_effect state.old memory.old word (meaning op.now state.old.virt.regs))
-        ≡ told_by result trap.new state.new memory.new tally.new.trace }
-    ensures stays { IfRaised result
-        ((state.new ≡ state.old) × (memory.new ≡ memory.old) × (tally.new ≡ tally.old)) }
-    ensures tally { OnlyTrace tally.old tally.new }
-    ensures serves { ServesHart buffer.new state.new memory.new }
-    ensures plain { IfPlain result (KeepsContext state.old.virt state.new.virt) }
-{
-    let pc = state.virt.regs.pc;
-    let _ = tally.trace();
-    match made(state, memory, buffer, word, op, trap) {
-        Ended::Plain => {
-            tally.count(pc, word);
-            Ended::Plain
-        }
-        Ended::System => Ended::System,
-        Ended::Raised => Ended::Raised,
-    }
-}
-
-// The same where it may have found a first-stage translation.
+// The instruction of a word, whose own access at pc may have found a first-stage translation. The tally gets
+// the trace where it is made.
 #[tactic(auto, using(crate::proofs::Told::system_told, crate::proofs::Told::is_system_told))]
-fn counted_anew(
+fn counted(
     state: &mut HartState,
     memory: &mut PhysMem,
     buffer: &mut Buffer,
@@ -342,152 +789,5 @@ fn counted_anew(
         }
         Ended::System => Ended::System,
         Ended::Raised => Ended::Raised,
-    }
-}
-
-// The instruction that a word is.
-#[inline(always)]
-#[tactic(auto, using(crate::proofs::FirstFound::rare_ends), unfolding(op_defs::specs::Meaning::meaning, arch_defs::specs::FirstEntries::all_filled))]
-fn made(
-    state: &mut HartState,
-    memory: &mut PhysMem,
-    buffer: &mut Buffer,
-    word: u32,
-    op: &Op,
-    trap: &mut Trap,
-) -> Ended
-    requires op { op_of word ≡ Some op.now }
-    requires serves { ServesHart buffer.old state.old memory.old }
-    ensures ends { attempt_of_effect state.old memory.old word (meaning op.now state.old.virt.regs)
-        ≡ attempt_by result trap.new (event_of state.old.virt.regs.pc word) state.new memory.new }
-    ensures stays { IfRaised result ((state.new ≡ state.old) × (memory.new ≡ memory.old)) }
-    ensures serves { ServesHart buffer.new state.new memory.new }
-    ensures plain { IfPlain result (KeepsContext state.old.virt state.new.virt) }
-{
-    match *op {
-        Op::Lui { rd, immediate } => sets(&mut state.virt, rd, immediate),
-        Op::Auipc { rd, immediate } => {
-            let value = state.virt.regs.pc.wrapping_add(immediate);
-            sets(&mut state.virt, rd, value)
-        }
-        Op::AluImmediate {
-            op,
-            rd,
-            rs1,
-            immediate,
-        } => {
-            let value = double_alu(op, state.virt.regs.read(rs1), immediate);
-            sets(&mut state.virt, rd, value)
-        }
-        Op::Alu { op, rd, rs1, rs2 } => {
-            let value = double_alu(op, state.virt.regs.read(rs1), state.virt.regs.read(rs2));
-            sets(&mut state.virt, rd, value)
-        }
-        Op::WordImmediate {
-            op,
-            rd,
-            rs1,
-            immediate,
-        } => {
-            let value = word_alu(op, state.virt.regs.read(rs1), immediate);
-            sets(&mut state.virt, rd, value)
-        }
-        Op::Word { op, rd, rs1, rs2 } => {
-            let value = word_alu(op, state.virt.regs.read(rs1), state.virt.regs.read(rs2));
-            sets(&mut state.virt, rd, value)
-        }
-        Op::Jal { rd, offset } => {
-            let to = state.virt.regs.pc.wrapping_add(offset);
-            jump(state, rd, to, trap)
-        }
-        Op::Jalr { rd, rs1, offset } => {
-            let to = even(address_at(&state.virt.regs, rs1, offset));
-            jump(state, rd, to, trap)
-        }
-        Op::Branch {
-            test,
-            rs1,
-            rs2,
-            offset,
-        } => {
-            let taken = is_branch_taken(test, state.virt.regs.read(rs1), state.virt.regs.read(rs2));
-            let to = state.virt.regs.pc.wrapping_add(offset);
-            branch(state, taken, to, trap)
-        }
-        Op::Load {
-            width,
-            signed,
-            rd,
-            rs1,
-            offset,
-        } => {
-            let address = address_at(&state.virt.regs, rs1, offset);
-            load_data(state, memory, buffer, address, width, signed, rd, trap)
-        }
-        Op::Store {
-            width,
-            rs1,
-            rs2,
-            offset,
-        } => {
-            let address = address_at(&state.virt.regs, rs1, offset);
-            let value = state.virt.regs.read(rs2);
-            store_data(state, memory, buffer, address, width, value, trap)
-        }
-        _ => rare(state, memory, buffer, word, None, trap),
-    }
-}
-
-// A register is set, and pc goes on.
-#[inline(always)]
-fn sets(state: &mut Virtual, rd: Reg, value: u64) -> Ended
-    ensures state { state.new ≡ sets state.old rd value }
-    ensures plain { result ≡ Ended.Plain }
-{
-    state.set(rd, value);
-    Ended::Plain
-}
-
-// A jump, which leaves the next pc in rd.
-#[inline(always)]
-#[tactic(auto, unfolding(arch_defs::specs::FirstEntries::all_filled))]
-fn jump(state: &mut HartState, rd: Reg, to: u64, trap: &mut Trap) -> Ended
-    ensures ends { (memory : List ℕ) (word : ℕ) → attempt_of_effect state.old memory word
-        (jump rd (next state.old.virt.regs) to)
-        ≡ attempt_by result trap.new (event_of state.old.virt.regs.pc word) state.new memory }
-    ensures stays { IfRaised result (state.new ≡ state.old) }
-    ensures keeps { KeepsContext state.old.virt state.new.virt }
-    ensures first { state.new.virt.first ≡ state.old.virt.first }
-    ensures tag { state.new.tag ≡ state.old.tag }
-{
-    if to % 4 == 0 {
-        let next = state.virt.regs.pc.wrapping_add(4);
-        state.virt.regs.advance(rd, next, to);
-        Ended::Plain
-    } else {
-        raise(state.virt.mode, INSTRUCTION_MISALIGNED, to, trap)
-    }
-}
-
-// A branch.
-#[inline(always)]
-#[tactic(auto, unfolding(arch_defs::specs::FirstEntries::all_filled))]
-fn branch(state: &mut HartState, taken: bool, to: u64, trap: &mut Trap) -> Ended
-    ensures ends { (memory : List ℕ) (word : ℕ) → attempt_of_effect state.old memory word
-        (branch taken (next state.old.virt.regs) to)
-        ≡ attempt_by result trap.new (event_of state.old.virt.regs.pc word) state.new memory }
-    ensures stays { IfRaised result (state.new ≡ state.old) }
-    ensures keeps { KeepsContext state.old.virt state.new.virt }
-    ensures first { state.new.virt.first ≡ state.old.virt.first }
-    ensures tag { state.new.tag ≡ state.old.tag }
-{
-    if !taken {
-        state.virt.pass();
-        Ended::Plain
-    } else if to % 4 == 0 {
-        state.virt.regs.advance(Reg::new(0), 0, to);
-        Ended::Plain
-    } else {
-        raise(state.virt.mode, INSTRUCTION_MISALIGNED, to, trap)
     }
 }

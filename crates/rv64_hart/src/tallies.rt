@@ -80,4 +80,11 @@ impl Tally {
     {
         self.trace = self.trace.wrapping_add(pc.wrapping_add(word as u64));
     }
+
+    // The hart has made plain steps, by which the trace is this.
+    pub(crate) fn go_on_at(&mut self, trace: u64)
+        ensures { self.new ≡ record self.old { trace = trace } }
+    {
+        self.trace = trace;
+    }
 }

@@ -316,6 +316,29 @@ impl Buffer {
         }
     }
 
+    /// The place of an access by what is kept, if it is, as the registers and memory are.
+    #[inline(always)]
+    pub fn kept(&self, memory: &PhysMem, state: &HartState, va: u64, access: Access) -> Option<u64>
+        requires serves { ServesHart self.now state.now memory.now }
+        ensures place { IfSome result
+            (λ place. Some place ≡ place_on_hart state.now memory.now va access) }
+        ensures inside { IfSome result (λ place. IsPlaceOf (machine_memory memory.now) va place) }
+    {
+        memory.is_whole();
+        match self.find(va, access) {
+            Some(place) => Some(place),
+            None => None,
+        }
+    }
+
+    /// Whether an entry in the frame of a place may have been read for what is kept.
+    #[inline(always)]
+    pub fn has_read(&self, place: u64) -> bool
+        ensures { result ≡ has_frame self.now.read (place / 4096) }
+    {
+        self.read.holds(place / 4096)
+    }
+
     /// The place of the instruction at an address, by the page of the last fetch, if it is of that page and a
     /// multiple of 4.
     #[inline(always)]

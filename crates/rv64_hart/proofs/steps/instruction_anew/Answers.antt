@@ -16,7 +16,7 @@ returns-in-Some-clause-told c =
     ap (told_of c.args.tally.now.trace) (goes_on_at c.args.state.now c.args.memory.now c.in-Some.place (entries_of c.reach.new.entry) at (sym c.reach.ensures.entry)
     ∙ ap (λ xs. attempt_at xs c.args.state.now c.args.memory.now (word_at (reading_of_memory c.args.memory.now) c.in-Some.place)) (ap entries_of (sym c.as_ref-found.ensures.value))
     ∙ ap (attempt_at (entries_of (option_map (λ e. e.now) c.as_ref-found.result)) c.args.state.now c.args.memory.now) (sym c.word_at.ensures))
-    ∙ c.counted_anew.ensures.told
+    ∙ c.counted.ensures.told
 
 pub returns-in-None-clause-told : goal.returns-in-None-clause-told
 unfolding core

@@ -1,7 +1,7 @@
 use Rattle.arch_defs.specs.declared.modes.Access.TheVariants.{Fetch}
 use Rattle.arch_defs.specs.declared.widths.Width.TheVariants.{Word}
 use Rattle.rv64_hart.proofs.Places.{at_place_found, nothing_found}
-use Rattle.rv64_hart.proofs.accesses.fetch_place.Goals as goal
+use Rattle.rv64_hart.proofs.accesses.last_place.Goals as goal
 
 pub returns-in-Some-clause-located : goal.returns-in-Some-clause-located
 returns-in-Some-clause-located c =
