@@ -12,12 +12,13 @@ use Rattle.arch_defs.specs.Spaces.{Space, entered, fenced}
 use Rattle.arch_defs.specs.WalkedEntries.{folds}
 use Rattle.arch_defs.specs.Waits.{wake_moment}
 use Rattle.arch_defs.proofs.FrameSets.{left_within, only_more}
+use Rattle.machine_defs.specs.declared.events.Event.{Event}
 use Rattle.machine_defs.specs.declared.events.Event.TheVariants.{System}
 use Rattle.machine_defs.specs.Fills.{missing_entry}
 use Rattle.machine_defs.specs.Machine.{Machine, Platform, has_enabled_interrupt, stepped_to, ticked, waited, waited_until, with_registers}
 use Rattle.arch_defs.specs.Registers.{passed}
 use Rattle.machine_defs.specs.Outcomes.{Outcome, Fenced, Waits}
-use Rattle.machine_defs.specs.Runs.{left_by}
+use Rattle.machine_defs.specs.Runs.{event_in, left_by}
 use Rattle.machine_defs.specs.Tries.{apply_outcome, committed, device_of, enters}
 use Rattle.shadow_pool.specs.Slots.{KeepsPool, pool_frames, room_of, spaces_of}
 use Rattle.guest_exit.specs.declared.guests.Guest.{Guest}
@@ -108,6 +109,14 @@ wait_made old new virt found memory end passes is made = rw is
     → machine_of new memory ≡ left_by (machine_of old memory) (apply_outcome (device_of (machine_of old memory)) (having_found found (machine_of old memory)) (Waits virt)))
     (sym passes) (λ made. made memory) made)
 
+pub wait_told : (old : Guest) (virt : Virtual) (found : List FirstEntry) (memory : List ℕ) (end : Outcome) (es : List Event) → virt ≡ passed old.virt → end ≡ Waits virt
+    → ((memory : List ℕ) → event_in (waited (having_found found (machine_of (with_pc (with_state old virt) old.virt.regs.pc) memory)) virt) ≡ es)
+    → event_in (apply_outcome (device_of (machine_of old memory)) (having_found found (machine_of old memory)) end) ≡ es
+wait_told old virt found memory end es passes is told = rw is
+    (subst (λ virt. ((memory : List ℕ) → event_in (waited (having_found found (machine_of (with_pc (with_state old virt) old.virt.regs.pc) memory)) virt) ≡ es)
+    → event_in (apply_outcome (device_of (machine_of old memory)) (having_found found (machine_of old memory)) (Waits virt)) ≡ es)
+    (sym passes) (λ told. told memory) told)
+
 -- the answer tells whether a fill was made
 never_both : (m : Machine) → IsMiss m → missing_entry m ≡ None → ⊥
 never_both m (e, some) none = let both : Some e ≡ None = sym some ∙ none in absurd (cc)
@@ -115,6 +124,7 @@ never_both m (e, some) none = let both : Some e ≡ None = sym some ∙ none in 
 pub retries_exactly : (m after : Machine) (result : Handled) → IsHandled result m after → (result ≡ handled.Retry) ↔ IsMiss m
 retries_exactly m after handled.Retry is = let filled = is.fill refl in (λ e. (filled.0, filled.1), λ miss. refl)
 retries_exactly m after handled.Stepped is = (λ e. absurd (cc), λ miss. absurd (never_both m miss (is.step (λ e. absurd (cc))).ready))
+retries_exactly m after (handled.Trapped into interrupt) is = (λ e. absurd (cc), λ miss. absurd (never_both m miss (is.step (λ e. absurd (cc))).ready))
 retries_exactly m after handled.Waits is = (λ e. absurd (cc), λ miss. absurd (never_both m miss (is.step (λ e. absurd (cc))).ready))
 retries_exactly m after handled.Stopped is = (λ e. absurd (cc), λ miss. absurd (never_both m miss (is.step (λ e. absurd (cc))).ready))
 
@@ -123,6 +133,7 @@ placed_by : (old new : Guest) (memory changed : List ℕ) (result : Handled) →
     → IsHandled result (machine_of old memory) (machine_of new changed) → IsPlaced new changed
 placed_by old new memory changed handled.Retry at within is = placed_by_fill old new memory changed at within.keeps within.only within.tidy (is.fill refl)
 placed_by old new memory changed handled.Stepped at within is = placed_by_step old new memory changed at within.keeps within.only within.tidy (is.step (λ e. absurd (cc)))
+placed_by old new memory changed (handled.Trapped into interrupt) at within is = placed_by_step old new memory changed at within.keeps within.only within.tidy (is.step (λ e. absurd (cc)))
 placed_by old new memory changed handled.Waits at within is = placed_by_step old new memory changed at within.keeps within.only within.tidy (is.step (λ e. absurd (cc)))
 placed_by old new memory changed handled.Stopped at within is = placed_by_step old new memory changed at within.keeps within.only within.tidy (is.step (λ e. absurd (cc)))
 

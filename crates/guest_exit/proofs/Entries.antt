@@ -6,18 +6,19 @@ use Rattle.std.proofs.lemmas.List.Sums.{sum_by-append}
 use Rattle.std.proofs.lemmas.Option.{none-some, same_Some}
 use Rattle.arch_defs.specs.declared.hart_states.HartState.{HartState}
 use Rattle.arch_defs.specs.declared.levels.Level.TheVariants as level
+use Rattle.arch_defs.specs.declared.modes.Mode.{Mode}
 use Rattle.arch_defs.specs.declared.modes.Trap.{Trap}
 use Rattle.arch_defs.specs.declared.registers.Csrs.{Csrs}
 use Rattle.arch_defs.specs.declared.roots.GuestRoot.{GuestRoot}
 use Rattle.arch_defs.specs.declared.registers.Virtual.{Virtual}
 use Rattle.arch_defs.specs.Frames.{Only, in_blocks}
-use Rattle.arch_defs.specs.Interrupts.{due, interrupt_of}
+use Rattle.arch_defs.specs.Interrupts.{due, interrupt_of, vs_bit}
 use Rattle.arch_defs.specs.Layouts.{Layout, NamesEachOnce}
 use Rattle.arch_defs.specs.Ram.{ram_of}
 use Rattle.arch_defs.specs.Memory.{block_size}
 use Rattle.fill_laws.specs.Keeping.{IsOrderly}
 use Rattle.std.specs.List.{All}
-use Rattle.arch_defs.specs.Traps.{is_virtual}
+use Rattle.arch_defs.specs.Traps.{is_virtual, target}
 use Rattle.arch_defs.proofs.FrameSets.{only_both, only_none}
 use Rattle.machine_defs.specs.declared.events.Event.{Event}
 use Rattle.machine_defs.specs.declared.events.Event.TheVariants as event
@@ -50,7 +51,7 @@ use Rattle.world_switch.proofs.Registers.{none_waits}
 use Rattle.world_switch.proofs.Undone.{load_after_save, save_after_load, saved_v, virtual_mode, saves_own}
 use Rattle.hosted_steps.specs.ExitCases.{IsLeft, exit_of, found_next}
 use Rattle.guest_exit.specs.HartEntry.{EndsInTrap, Hands, IsStopped, Lasts, is_watched, moved, taken_back}
-use Rattle.hosted_steps.specs.HartSteps.{Follows, IsAt, IsOf, KeepsHart, event_for, host_takes, root_for, root_frame_for}
+use Rattle.hosted_steps.specs.HartSteps.{Follows, IsAt, IsOf, KeepsHart, event_for, host_takes, is_hosts, root_for, root_frame_for}
 use Rattle.hosted_steps.proofs.Followed.{followed}
 use Rattle.hosted_steps.proofs.Interrupts.{own_after}
 use Rattle.guest_exit.proofs.Pools.{size_of, tidy_by_blocks}
@@ -518,6 +519,19 @@ pub left : (part : Layout) (pool : Pooled) (m : Machine) (memory : List ℕ) (tr
 left part pool m memory trap at hands =
     let root = root_for part pool m.platform.virt in
     let there : Follows part root m memory (Exits trap) = subst (λ end. Follows part root m memory end) hands.exits (followed part pool m memory hands.own at) in there
+
+-- an interrupt that the host takes goes to HS
+given_to : (delegated : Bool) → not delegated ≡ true → cond delegated level.VS level.HS ≡ level.HS
+given_to true is = cc
+given_to false is = refl
+
+pub hosts_target : (csrs : Csrs) (mode : Mode) (code : ℕ) → is_hosts (Some code) (is_virtual mode) csrs.hideleg ≡ true → target csrs mode (interrupt_of code) ≡ level.HS
+unfolding target
+hosts_target csrs mode code is = by (is_virtual mode) is
+  where
+    by : (virtual : Bool) → is_hosts (Some code) virtual csrs.hideleg ≡ true → cond (virtual && vs_bit csrs.hideleg code) level.VS level.HS ≡ level.HS
+    by true is = given_to (vs_bit csrs.hideleg code) is
+    by false is = refl
 
 -- an interrupt that is due
 pub interrupted : (m : Machine) (code : ℕ) → due m.platform.virt.csrs m.platform.virt.mode ≡ Some code → (missing_entry m ≡ None) × (try m ≡ trapped m (interrupt_of code))

@@ -66,6 +66,8 @@ handled_waits m after left found handled.Retry running is made status =
     never_waits m (having_found found m) trap.0 handled.Retry (λ e. absurd (cc)) (is.step ∙ trap.1)
 handled_waits m after left found handled.Stepped running is made status =
     waits_exactly m after handled.Stepped running (((handled_by m after left found handled.Stepped is made).step (λ e. absurd (cc))).step) status
+handled_waits m after left found (handled.Trapped into interrupt) running is made status =
+    waits_exactly m after (handled.Trapped into interrupt) running (((handled_by m after left found (handled.Trapped into interrupt) is made).step (λ e. absurd (cc))).step) status
 handled_waits m after left found handled.Waits running is made status =
     waits_exactly m after handled.Waits running (((handled_by m after left found handled.Waits is made).step (λ e. absurd (cc))).step) status
 handled_waits m after left found handled.Stopped running is made status =

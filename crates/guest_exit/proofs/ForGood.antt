@@ -48,6 +48,7 @@ told m WaitsForGood other e = refl
 
 answer_of : (result : Handled) → status_after result ≡ Waiting → result ≡ handled.Waits
 answer_of handled.Stepped e = absurd (cc)
+answer_of (handled.Trapped into interrupt) e = absurd (cc)
 answer_of handled.Waits e = refl
 answer_of handled.Stopped e = absurd (cc)
 answer_of handled.Retry e = absurd (cc)

@@ -1,5 +1,5 @@
 -- HLV, HLVX and HSV, whose access the host makes on the guest's RAM, or on the device page.
-use Rattle.std.specs.Prelude.{◌&&◌, ◌%◌, IfSome, not, option_map}
+use Rattle.std.specs.Prelude.{[], ◌∷◌, ◌&&◌, ◌%◌, IfSome, not, option_map}
 use Rattle.std.proofs.Common.{◌≡◌, ℕ, ◌∙◌, Bool, true, false, List, Option, Some, None, refl, ap, sym, subst}
 use Rattle.arch_defs.specs.declared.csr_names.CsrEnd.{CsrEnd}
 use Rattle.arch_defs.specs.declared.first.FirstEntry.{FirstEntry}
@@ -28,7 +28,8 @@ use Rattle.machine_defs.specs.DeviceSteps.{DeviceCompletion, device_completed, s
 use Rattle.machine_defs.specs.HlvAccesses.{Completes, Device, HlvEnd, Traps, hlv_outcome}
 use Rattle.machine_defs.specs.Machine.{Machine, ticked, trapped, with_pending_lines, with_registers}
 use Rattle.machine_defs.specs.Outcomes.{Outcome, Done, Trapped, Missed, Called, Waits, Fenced, FirstFenced, Accesses}
-use Rattle.machine_defs.specs.Runs.{left_by}
+use Rattle.machine_defs.specs.declared.events.Event.TheVariants.{System}
+use Rattle.machine_defs.specs.Runs.{event_in, left_by}
 use Rattle.machine_defs.specs.Tries.{apply_outcome, device_of, enters, hlv_committed}
 use Rattle.instruction_laws.specs.InstructionEnds.{HlvHas}
 use Rattle.instruction_laws.proofs.Completions.{completed_same, hlv_each}
@@ -182,6 +183,32 @@ module _ (old new : Guest) (base : Machine) (memory changed : List ℕ) (virt : 
   access_made (Waits state) time ends = absurd ends
   access_made (Fenced state fence) time ends = absurd ends
   access_made (FirstFenced state named fence) time ends = absurd ends
+
+  -- and its event is one of opcode SYSTEM
+  serves_event : (missing : MissingPlace) (completion : Option DeviceCompletion)
+      → EndsAs (served_from (state_in old memory) (missing_place_fault missing) completion) answer.Done after → event_in (served (machine_of old memory) missing completion) ≡ System ∷ []
+  serves_event missing None never = absurd never
+  serves_event missing (Some completion) is = refl
+
+  made_event : (wanted : DataAccess) (end : HlvEnd) → ShowsTime old → EndsAs (hlv_left wanted (state_in old memory) end) answer.Done after
+      → event_in (hlv_committed (machine_of old memory) wanted end) ≡ System ∷ []
+  made_event wanted (Completes completion) time is = refl
+  made_event wanted (Device missing) time is =
+      serves_event missing (device_completed old.virt old.console old.clock.time (missing.address % 4096) wanted.width wanted.purpose)
+      (subst (λ clock. EndsAs (served_from (state_in old memory) (missing_place_fault missing) (device_completed old.virt old.console clock (missing.address % 4096) wanted.width wanted.purpose)) answer.Done after)
+      time is)
+  made_event wanted (Traps trap) time never = absurd never
+
+  pub access_event : (end : Outcome) → ShowsTime old → EndsBy old.device (state_in old memory) end answer.Done after
+      → event_in (apply_outcome (device_of (machine_of old memory)) (machine_of old memory) end) ≡ System ∷ []
+  access_event (Accesses wanted) time ends = made_event wanted (hlv_outcome old.device (ram_memory (ram_of old.part.blocks memory)) old.virt wanted) time ends
+  access_event (Trapped trap) time ends = cc
+  access_event (Done state stored event) time ends = absurd ends
+  access_event (Missed missing wanted) time ends = absurd ends
+  access_event Called time ends = absurd ends
+  access_event (Waits state) time ends = absurd ends
+  access_event (Fenced state fence) time ends = absurd ends
+  access_event (FirstFenced state named fence) time ends = absurd ends
 
 -- and where it traps, the trap is the machine's
 module _ (m : Machine) (time : m.platform.virt.csrs.time ≡ m.platform.clock.time) (raised : Trap) (after : HlvState) where

@@ -10,4 +10,6 @@ pub mod Moments
 pub mod NoTable
 pub mod Placed
 pub mod Pools
+pub mod SingleEntries
 pub mod SomeEnds
+pub mod StepEvents

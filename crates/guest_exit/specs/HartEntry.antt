@@ -21,6 +21,8 @@ use Rattle.shadow_pool.specs.Slots.{Pooled}
 use Rattle.world_switch.specs.Hosting.{after_hs_trap, loaded_in, saved_in}
 use Rattle.world_switch.specs.Laws.{waits_for_hs}
 use Rattle.guest_exit.specs.declared.guests.Guest.{Guest}
+use Rattle.guest_exit.specs.declared.hart_entry.Entered.{Entered}
+use Rattle.guest_exit.specs.declared.hart_entry.Entered.TheVariants.{Made, Left}
 use Rattle.hosted_steps.specs.HartSteps.{host_takes, root_for}
 use Rattle.guest_exit.specs.View.{IsPlaced, KeepsSpaces, loaded_for, platform_of}
 
@@ -97,6 +99,16 @@ pub record Stops (part : Layout) (pool : Pooled) (before after : Machine) (memor
     (stop : Stop) : Type 0 where
   pub within : stop.taken ≤ limit
   pub why : IsStopped part pool before after memory limit stop.taken stop.why
+
+-- how many steps an entry for one has made
+abbrev pub steps_entered : Entered → ℕ
+steps_entered (Made event) = 1
+steps_entered (Left trap) = 0
+
+-- what such an entry tells: the event of the machine's step; or that the hart leaves it to the host
+abbrev pub IsEntered : Layout → Pooled → Machine → Machine → List ℕ → Entered → Type 0
+IsEntered part pool before after memory (Made event) = event_in (try before) ≡ event ∷ []
+IsEntered part pool before after memory (Left trap) = Hands part pool after memory trap
 
 -- the hart has made that many steps for a guest, from what it has for it, with V = 0 none but the last a trap
 -- into VS. What it has then is the guest's: what is saved of it and, after such a trap, what that leaves to

@@ -1,5 +1,5 @@
 -- What the host makes of a step that the hart has left to it.
-use Rattle.std.specs.Prelude.{ℕ, ◌≡◌, ◌≢◌, ◌↔◌, ◌+◌, ◌^◌, ◌≤◌, Bool, true, List, Some, None, ⊤}
+use Rattle.std.specs.Prelude.{ℕ, ◌≡◌, ◌≢◌, ◌↔◌, ◌+◌, ◌^◌, ◌≤◌, Bool, true, List, [], ◌∷◌, Some, None, ⊤}
 use Rattle.arch_defs.specs.declared.cached.Entry.{Entry}
 use Rattle.arch_defs.specs.declared.cached.Fence.{Fence}
 use Rattle.arch_defs.specs.declared.first.FirstEntry.{FirstEntry}
@@ -11,13 +11,14 @@ use Rattle.arch_defs.specs.Registers.{a7, read}
 use Rattle.arch_defs.specs.Traps.{is_virtual}
 use Rattle.op_defs.specs.declared.ops.Op.{Op}
 use Rattle.op_defs.specs.declared.ops.Op.TheVariants as op
-use Rattle.machine_defs.specs.declared.events.Event.TheVariants.{System}
+use Rattle.machine_defs.specs.declared.events.Event.{Event}
+use Rattle.machine_defs.specs.declared.events.Event.TheVariants as event
 use Rattle.guest_settings.specs.declared.statuses.Status.{Status}
 use Rattle.guest_settings.specs.declared.statuses.Status.TheVariants as status
 use Rattle.machine_defs.specs.Fills.{fill}
-use Rattle.machine_defs.specs.Machine.{Machine, with_pending_lines}
+use Rattle.machine_defs.specs.Machine.{Machine, Tried, with_pending_lines}
 use Rattle.machine_defs.specs.Outcomes.{Fenced}
-use Rattle.machine_defs.specs.Runs.{left_by}
+use Rattle.machine_defs.specs.Runs.{event_in, left_by}
 use Rattle.machine_defs.specs.Tries.{apply_outcome, committed, device_of}
 use Rattle.host_tables.specs.Walks.{IsHeld}
 use Rattle.shadow_pool.specs.Slots.{TidyPool}
@@ -25,7 +26,7 @@ use Rattle.rv64_asm.specs.Fitting.{fits}
 use Rattle.hcsr_emulation.specs.Ends.{is_decided}
 use Rattle.guest_exit.specs.declared.guests.Guest.{Guest}
 use Rattle.guest_exit.specs.declared.hart_exit.Handled.{Handled}
-use Rattle.guest_exit.specs.declared.hart_exit.Handled.TheVariants.{Stepped, Retry, Waits, Stopped}
+use Rattle.guest_exit.specs.declared.hart_exit.Handled.TheVariants.{Stepped, Trapped, Retry, Waits, Stopped}
 use Rattle.hosted_steps.specs.ExitCases.{Exit, Instruction, Missing, Call, Own, entry_for_exit, try_at}
 use Rattle.guest_exit.specs.HartEntry.{Hands}
 use Rattle.guest_exit.specs.Steps.{CanStep, Fills, IsNotPlain, MakesStep}
@@ -55,15 +56,34 @@ IsStopCall left virt = (left ≡ Call) × (read virt.regs a7 ≡ 8)
 -- the status after what the host made of a step, and how many steps that was
 abbrev pub status_after : Handled → Status
 status_after Stepped = status.Running
+status_after (Trapped into interrupt) = status.Running
 status_after Retry = status.Running
 status_after Waits = status.Waiting
 status_after Stopped = status.Stopped
 
 abbrev pub steps_made : Handled → ℕ
 steps_made Stepped = 1
+steps_made (Trapped into interrupt) = 1
 steps_made Retry = 0
 steps_made Waits = 0
 steps_made Stopped = 1
+
+-- the event of the step that it was: none of the host's is plain
+abbrev pub events_told : Handled → List Event
+events_told Stepped = event.System ∷ []
+events_told (Trapped into interrupt) = event.Trap into interrupt ∷ []
+events_told Retry = []
+events_told Waits = []
+events_told Stopped = event.System ∷ []
+
+-- a try's event is as the host's answer tells; where a fill was made in its place it tells none
+abbrev pub IsToldEvent : Handled → Tried → Type 0
+IsToldEvent result tried = result ≢ Retry → event_in tried ≡ events_told result
+
+-- so is that of a try of a guest's machine, whatever is in memory
+abbrev pub TellsEvent : Handled → Guest → (Machine → Tried) → Type 0
+TellsEvent result before tried =
+    (memory : List ℕ) → event_in (tried (machine_of before memory)) ≡ events_told result
 
 -- a guest's status, count of steps and clock are as the host's answer tells
 pub record IsTold (result : Handled) (before after : Guest) : Type 0 where
@@ -103,7 +123,7 @@ abbrev pub IsFinished : Bool → Guest → List ℕ → Guest → List ℕ → T
 IsFinished nested guest memory after changed =
     (before : Virtual) → is_virtual before.mode ≡ nested → before.first ≡ guest.virt.first
     → machine_of after changed ≡ left_by (machine_of (with_state guest before) memory)
-    (committed (machine_of (with_state guest before) memory) guest.virt None System)
+    (committed (machine_of (with_state guest before) memory) guest.virt None event.System)
 
 -- so is a fence that names these cached translations
 abbrev pub IsFenced : Fence → Guest → List ℕ → Guest → List ℕ → Type 0
@@ -146,5 +166,6 @@ pub record IsMadeFor (left : Exit) (found : List FirstEntry) (result : Handled) 
   pub makes : IsMadeOf left found result (machine_of before memory) (machine_of after changed)
   pub stops : (result ≡ Stopped) ↔ IsStopCall left before.virt
   pub quiet : IsNotPlain (try_at found (machine_of before memory) left)
+  pub event : IsToldEvent result (try_at found (machine_of before memory) left)
   pub told : IsTold result before after
   pub within : KeepsOutside before memory after changed

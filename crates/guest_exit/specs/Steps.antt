@@ -1,7 +1,9 @@
 -- The next step of a guest's lone machine, and what is left after it.
-use Rattle.std.specs.Prelude.{ℕ, ◌≡◌, ◌+◌, ◌^◌, ◌<◌, ◌≤◌, List, Some, None}
+use Rattle.std.specs.Prelude.{ℕ, ◌≡◌, ◌+◌, ◌^◌, ◌<◌, ◌≤◌, true, List, [], ◌∷◌, Some, None}
 use Rattle.arch_defs.specs.declared.cached.Entry.{Entry}
+use Rattle.arch_defs.specs.declared.levels.Level.TheVariants.{HS}
 use Rattle.guest_settings.specs.declared.statuses.Status.TheVariants.{Running}
+use Rattle.machine_defs.specs.declared.events.Event.TheVariants.{Trap}
 use Rattle.machine_defs.specs.Fills.{fill, missing_entry}
 use Rattle.machine_defs.specs.Machine.{Machine, Tried}
 use Rattle.machine_defs.specs.Runs.{event_in, instruction_count, left_after, left_by, plain_count, run, trace_of}
@@ -55,5 +57,6 @@ pub record TakesInterrupt (before after : Guest) : Type 0 where
   pub step : (memory : List ℕ) → MakesStep (machine_of before memory) (machine_of after memory)
   pub quiet : (memory : List ℕ) → IsQuiet (machine_of before memory)
   pub none : (memory : List ℕ) → instruction_count (event_in (try (machine_of before memory))) ≡ 0
+  pub event : (memory : List ℕ) → event_in (try (machine_of before memory)) ≡ Trap HS true ∷ []
   pub made : after.steps ≡ before.steps + 1
   pub clock : after.clock.time ≡ before.clock.time + 1

@@ -1,10 +1,10 @@
 // Loads and stores of the device page by a guest, each of which is one step.
 
-ghost use Rattle.std.specs.Prelude.{◌≡◌};
+ghost use Rattle.std.specs.Prelude.{◌≡◌, ◌≢◌};
 ghost use Rattle.arch_defs.specs.SecondStage.{is_implicit};
 ghost use Rattle.machine_defs.specs.DeviceSteps.{device_step, on_device};
 ghost use Rattle.hosted_steps.specs.ExitCases.{data_wanted, having_found};
-ghost use Rattle.guest_exit.specs.HartExit.{CanGoOn, IsTold};
+ghost use Rattle.guest_exit.specs.HartExit.{CanGoOn, IsTold, TellsEvent};
 ghost use Rattle.guest_exit.specs.Steps.{CanStep, Makes};
 ghost use Rattle.guest_exit.specs.View.{KeepsSpaces, machine_of};
 
@@ -28,8 +28,12 @@ pub(crate) fn access_device(
     requires can { CanGoOn guest.old memory.now }
     ensures step { Makes guest.old guest.new (λ m. on_device (having_found found.now m) missing.now
         (data_wanted (machine_of guest.old memory.now))) }
+    ensures event { TellsEvent result guest.old (λ m. on_device (having_found found.now m) missing.now
+        (data_wanted (machine_of guest.old memory.now))) }
     ensures told { IsTold result guest.old guest.new }
-    ensures went { result ≡ Handled.Stepped }
+    ensures goes { result ≢ Handled.Waits }
+    ensures went { result ≢ Handled.Retry }
+    ensures runs { result ≢ Handled.Stopped }
     ensures keeps { KeepsSpaces guest.old guest.new }
 {
     let wanted = wanted(guest, memory);
@@ -64,8 +68,12 @@ fn serve(guest: &mut Guest, missing: &MissingPlace, wanted: &DataAccess) -> Hand
     requires can { CanStep guest.old }
     ensures step { Makes guest.old guest.new
         (λ m. device_step m missing.now wanted.now.width wanted.now.purpose) }
+    ensures event { TellsEvent result guest.old
+        (λ m. device_step m missing.now wanted.now.width wanted.now.purpose) }
     ensures told { IsTold result guest.old guest.new }
-    ensures went { result ≡ Handled.Stepped }
+    ensures goes { result ≢ Handled.Waits }
+    ensures went { result ≢ Handled.Retry }
+    ensures runs { result ≢ Handled.Stopped }
     ensures keeps { KeepsSpaces guest.old guest.new }
 {
     let clock = guest.clock.now();

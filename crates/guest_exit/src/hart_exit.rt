@@ -1,7 +1,7 @@
 // What the host makes of a step that the hart has left to it.
 
-ghost use Rattle.std.specs.Prelude.{◌≡◌, ◌≢◌, ◌↔◌, List, false, true, ℕ};
-ghost use Rattle.arch_defs.specs.Traps.{is_virtual};
+ghost use Rattle.std.specs.Prelude.{◌≡◌, ◌≢◌, ◌↔◌, List, [], ◌∷◌, false, true, ℕ};
+ghost use Rattle.arch_defs.specs.Traps.{is_virtual, target};
 ghost use Rattle.arch_defs.specs.WalkedEntries.{folds};
 ghost use Rattle.machine_defs.specs.declared.events.Event.TheVariants.{System};
 ghost use Rattle.machine_defs.specs.Machine.{WaitsForGood, called, stepped_to, trapped};
@@ -9,7 +9,7 @@ ghost use Rattle.machine_defs.specs.Tries.{try};
 ghost use Rattle.rv64_asm.specs.Fitting.{fits};
 ghost use Rattle.rv64_hart.specs.Leaves.{LeavesFit, leaves_list};
 ghost use Rattle.hosted_steps.specs.ExitCases.{Call, Own, decided_at, decided_in, exit_of, far_exit, found_next, if_decided, instruction_exit, missing_place_exit, other_exit};
-ghost use Rattle.guest_exit.specs.HartExit.{CanGoOn, HasExited, IsHandled, IsMadeFor, IsStopCall, IsTold, KeepsPart};
+ghost use Rattle.guest_exit.specs.HartExit.{CanGoOn, HasExited, IsHandled, IsMadeFor, IsStopCall, IsTold, IsToldEvent, KeepsPart, events_told};
 ghost use Rattle.hosted_steps.specs.HartSteps.{host_takes};
 ghost use Rattle.guest_exit.specs.Steps.{CanStep, IsMiss, IsQuiet, Makes};
 ghost use Rattle.guest_exit.specs.View.{IsPlaced, KeepsSpaces, machine_of};
@@ -21,7 +21,7 @@ use crate::hart_entry::hart_state_for;
 use crate::miss::miss;
 use crate::system::emulate;
 use crate::traps::take;
-use arch_defs::{SupervisorRoot, Trap, VIRTUAL_INSTRUCTION};
+use arch_defs::{Level, SupervisorRoot, Trap, VIRTUAL_INSTRUCTION};
 use hcsr_emulation::is_decided;
 use machine_defs::Status;
 use op_defs::Op;
@@ -34,8 +34,10 @@ use two_stage_walk::supervisor_of;
 /// What became of a step that the hart left to the host.
 #[derive(Clone, Copy, PartialEq, Eq)]
 pub enum Handled {
-    /// It was made.
+    /// It was made, and was no trap.
     Stepped,
+    /// It was made, a trap into this level, of an interrupt or of an exception.
+    Trapped { level: Level, interrupt: bool },
     /// It was not made: a cached translation was missing, and has been filled.
     Retry,
     /// It is a WFI that waits for good, and was not made.
@@ -55,6 +57,7 @@ pub fn handle(guest: &mut Guest, memory: &mut PhysMem, trap: Trap) -> Handled
     ensures stops { (result ≡ Handled.Stopped)
         ↔ IsStopCall (exit_of guest.old.virt trap) guest.old.virt }
     ensures quiet { IsQuiet (machine_of guest.old memory.old) }
+    ensures event { IsToldEvent result (try (machine_of guest.old memory.old)) }
     ensures told { IsTold result guest.old guest.new }
     ensures keeps { KeepsPart guest.old memory.old guest.new memory.new }
 {
@@ -243,12 +246,16 @@ pub(crate) fn raise(guest: &mut Guest, trap: &Trap) -> Handled
     requires can { CanStep guest.old }
     ensures step { Makes guest.old guest.new (λ m. trapped m trap.now) }
     ensures told { IsTold result guest.old guest.new }
-    ensures went { result ≡ Handled.Stepped }
+    ensures went { result ≡ Handled.Trapped (target guest.old.virt.csrs guest.old.virt.mode trap.now)
+        trap.now.interrupt }
     ensures keeps { KeepsSpaces guest.old guest.new }
 {
-    take(&mut guest.virt, trap);
+    let level = take(&mut guest.virt, trap);
     guest.tick();
-    Handled::Stepped
+    Handled::Trapped {
+        level,
+        interrupt: trap.interrupt,
+    }
 }
 
 // The guest calls the execution environment, and stops if it asks for that.
@@ -256,6 +263,7 @@ fn call(guest: &mut Guest) -> Handled
     requires can { CanStep guest.old }
     ensures step { Makes guest.old guest.new (λ m. stepped_to m (called m.platform) System) }
     ensures told { IsTold result guest.old guest.new }
+    ensures event { events_told result ≡ System ∷ [] }
     ensures went { result ≢ Handled.Retry }
     ensures keeps { KeepsSpaces guest.old guest.new }
 {

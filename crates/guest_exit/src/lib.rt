@@ -17,7 +17,7 @@ mod wfi;
 pub use console_dev::Console;
 pub use entry_limit::limit;
 pub use guests::Guest;
-pub use hart_entry::enter;
+pub use hart_entry::{Entered, enter, enter_once};
 pub use hart_exit::{Handled, handle};
 pub use host_interrupts::interrupt;
 pub use shadow_pool::Pool;

@@ -11,7 +11,7 @@ ghost use Rattle.machine_defs.specs.Machine.{trapped};
 ghost use Rattle.machine_defs.specs.Tries.{device_of};
 ghost use Rattle.shadow_pool.specs.Slots.{spaces_of};
 ghost use Rattle.hosted_steps.specs.ExitCases.{Missing, entry_for, having_found, try_at};
-ghost use Rattle.guest_exit.specs.HartExit.{CanGoOn, IsMadeOf, IsTold, KeepsOutside};
+ghost use Rattle.guest_exit.specs.HartExit.{CanGoOn, IsMadeOf, IsTold, IsToldEvent, KeepsOutside, TellsEvent};
 ghost use Rattle.guest_exit.specs.Steps.{IsNotPlain, Makes};
 ghost use Rattle.guest_exit.specs.View.{KeepsSpaces, machine_of};
 
@@ -37,6 +37,8 @@ pub fn miss(
     ensures makes { IsMadeOf (Missing access.now) found.now result
         (machine_of guest.old memory.old) (machine_of guest.new memory.new) }
     ensures quiet { IsNotPlain
+        (try_at found.now (machine_of guest.old memory.old) (Missing access.now)) }
+    ensures event { IsToldEvent result
         (try_at found.now (machine_of guest.old memory.old) (Missing access.now)) }
     ensures goes { result ≢ Handled.Waits }
     ensures runs { result ≢ Handled.Stopped }
@@ -68,8 +70,13 @@ fn raise_fault(
     ensures step { Makes guest.old guest.new (λ m. trapped (having_found found.now m)
         (missing_place_trap guest.old.virt.csrs (ram_memory (ram_of guest.old.part.blocks memory.old))
         access.now)) }
+    ensures event { TellsEvent result guest.old (λ m. trapped (having_found found.now m)
+        (missing_place_trap guest.old.virt.csrs (ram_memory (ram_of guest.old.part.blocks memory.old))
+        access.now)) }
     ensures told { IsTold result guest.old guest.new }
-    ensures went { result ≡ Handled.Stepped }
+    ensures goes { result ≢ Handled.Waits }
+    ensures went { result ≢ Handled.Retry }
+    ensures runs { result ≢ Handled.Stopped }
     ensures keeps { KeepsSpaces guest.old guest.new }
     ensures stays { memory.new ≡ memory.old }
 {

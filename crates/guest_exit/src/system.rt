@@ -8,14 +8,14 @@ ghost use Rattle.arch_defs.specs.Ram.{ram_of};
 ghost use Rattle.arch_defs.specs.WalkedEntries.{folds};
 ghost use Rattle.machine_defs.specs.declared.events.Event.TheVariants.{System};
 ghost use Rattle.machine_defs.specs.Machine.{stepped_to};
-ghost use Rattle.machine_defs.specs.Runs.{left_by};
+ghost use Rattle.machine_defs.specs.Runs.{event_in, left_by};
 ghost use Rattle.machine_defs.specs.Tries.{first_fenced};
 ghost use Rattle.run_laws.specs.StorableStates.{IsStorable};
 ghost use Rattle.rv64_asm.specs.Fitting.{fits};
 ghost use Rattle.hcsr_emulation.specs.Ends.{IfAccessRaised, IsCsrOrSret};
 ghost use Rattle.hlv_hsv.specs.Ends.{IsAccessed, IsHlvOp, hlv_state};
 ghost use Rattle.hosted_steps.specs.ExitCases.{try_decided};
-ghost use Rattle.guest_exit.specs.HartExit.{CanGoOn, HoldsTables, IsDecidedOp, IsFenced, IsFinished, IsTold, IsWaitOrFence, KeepsOutside};
+ghost use Rattle.guest_exit.specs.HartExit.{CanGoOn, HoldsTables, IsDecidedOp, IsFenced, IsFinished, IsTold, IsWaitOrFence, KeepsOutside, events_told};
 ghost use Rattle.guest_exit.specs.Steps.{CanStep, IsNotPlain, Makes};
 ghost use Rattle.guest_exit.specs.View.{KeepsSpaces, machine_of};
 
@@ -40,6 +40,8 @@ pub fn emulate(guest: &mut Guest, memory: &mut PhysMem, op: &Op, found: &FoundLe
     ensures step { machine_of guest.new memory.new ≡ left_by (machine_of guest.old memory.old)
         (try_decided found.now (machine_of guest.old memory.old) op.now) }
     ensures quiet { IsNotPlain (try_decided found.now (machine_of guest.old memory.old) op.now) }
+    ensures event { event_in (try_decided found.now (machine_of guest.old memory.old) op.now)
+        ≡ events_told result }
     ensures went { result ≢ Handled.Retry }
     ensures runs { result ≢ Handled.Stopped }
     ensures within { KeepsOutside guest.old memory.old guest.new memory.new }
@@ -70,7 +72,10 @@ fn access_registers(
     ensures step { machine_of guest.new memory.new ≡ left_by (machine_of guest.old memory.old)
         (try_decided found.now (machine_of guest.old memory.old) op.now) }
     ensures quiet { IsNotPlain (try_decided found.now (machine_of guest.old memory.old) op.now) }
-    ensures went { result ≡ Handled.Stepped }
+    ensures event { event_in (try_decided found.now (machine_of guest.old memory.old) op.now)
+        ≡ events_told result }
+    ensures went { result ≢ Handled.Retry }
+    ensures runs { result ≢ Handled.Stopped }
     ensures within { KeepsOutside guest.old memory.old guest.new memory.new }
     ensures told { IsTold result guest.old guest.new }
 {
@@ -90,6 +95,8 @@ fn wait_or_fence(guest: &mut Guest, memory: &mut PhysMem, op: &Op, found: &Found
     ensures step { machine_of guest.new memory.new ≡ left_by (machine_of guest.old memory.old)
         (try_decided found.now (machine_of guest.old memory.old) op.now) }
     ensures quiet { IsNotPlain (try_decided found.now (machine_of guest.old memory.old) op.now) }
+    ensures event { event_in (try_decided found.now (machine_of guest.old memory.old) op.now)
+        ≡ events_told result }
     ensures went { result ≢ Handled.Retry }
     ensures runs { result ≢ Handled.Stopped }
     ensures within { KeepsOutside guest.old memory.old guest.new memory.new }
@@ -199,7 +206,10 @@ fn access_ram(guest: &mut Guest, memory: &mut PhysMem, op: &Op, found: &FoundLea
     ensures step { machine_of guest.new memory.new ≡ left_by (machine_of guest.old memory.old)
         (try_decided found.now (machine_of guest.old memory.old) op.now) }
     ensures quiet { IsNotPlain (try_decided found.now (machine_of guest.old memory.old) op.now) }
-    ensures went { result ≡ Handled.Stepped }
+    ensures event { event_in (try_decided found.now (machine_of guest.old memory.old) op.now)
+        ≡ events_told result }
+    ensures went { result ≢ Handled.Retry }
+    ensures runs { result ≢ Handled.Stopped }
     ensures within { KeepsOutside guest.old memory.old guest.new memory.new }
     ensures told { IsTold result guest.old guest.new }
 {

@@ -5,7 +5,7 @@ ghost use Rattle.arch_defs.specs.Bits.{bit};
 ghost use Rattle.arch_defs.specs.CsrBits.{sip_bits, supervisor_interrupts};
 ghost use Rattle.machine_defs.specs.Machine.{has_enabled_interrupt, waited, with_pending_lines};
 ghost use Rattle.hosted_steps.specs.ExitCases.{having_found};
-ghost use Rattle.guest_exit.specs.HartExit.{IsTold, with_pc};
+ghost use Rattle.guest_exit.specs.HartExit.{IsTold, TellsEvent, with_pc};
 ghost use Rattle.guest_exit.specs.Steps.{CanStep, Makes};
 ghost use Rattle.guest_exit.specs.View.{KeepsSpaces, platform_of};
 
@@ -23,6 +23,8 @@ pub fn wait(guest: &mut Guest, pc: u64, found: &FoundLeaves) -> Handled
     requires can { CanStep guest.old }
     requires current { with_pending_lines (platform_of guest.old) ≡ platform_of guest.old }
     ensures step { Makes (with_pc guest.old pc) guest.new
+        (λ m. waited (having_found found.now m) guest.old.virt) }
+    ensures event { TellsEvent result (with_pc guest.old pc)
         (λ m. waited (having_found found.now m) guest.old.virt) }
     ensures told { IsTold result guest.old guest.new }
     ensures went { result ≢ Handled.Retry }
@@ -43,6 +45,8 @@ fn wait_for_wake(guest: &mut Guest, pc: u64, found: &FoundLeaves) -> Handled
     requires current { with_pending_lines (platform_of guest.old) ≡ platform_of guest.old }
     requires none { has_enabled_interrupt guest.old.virt.csrs ≡ false }
     ensures step { Makes (with_pc guest.old pc) guest.new
+        (λ m. waited (having_found found.now m) guest.old.virt) }
+    ensures event { TellsEvent result (with_pc guest.old pc)
         (λ m. waited (having_found found.now m) guest.old.virt) }
     ensures told { IsTold result guest.old guest.new }
     ensures went { result ≢ Handled.Retry }

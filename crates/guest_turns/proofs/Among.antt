@@ -12,7 +12,7 @@ use Rattle.shadow_space.specs.Shadows.{AreZeros}
 use Rattle.machine_defs.specs.Machine.{Machine}
 use Rattle.machine_defs.specs.Runs.{run}
 use Rattle.guest_exit.specs.declared.guests.Guest.{Guest}
-use Rattle.guest_exit.specs.View.{changed_by, machine_of}
+use Rattle.guest_exit.specs.View.{KeepsLayout, changed_by, machine_of}
 use Rattle.guest_turns.specs.Hosted.{Hosted, is_set, machine_at, no_machine, part_at}
 use Rattle.guest_turns.specs.Hosting.{AreHosted, HasRun, IsFree, IsGone, IsHosted, parts_of}
 use Rattle.guest_turns.specs.TurnLists.{updated}
@@ -158,39 +158,46 @@ module _ (guests : List Guest) (retired free : List Bool) (memory : List ℕ) (a
     spare = spare;
   }
 
--- what a turn of the guest g leaves of all
-pub record Turned (guests : List Guest) (retired free : List Bool) (memory : List ℕ) (g k : ℕ) (after : List Guest) (changed : List ℕ) : Type 0 where
+-- what a turn or a try of the guest g, which changes its machine so, leaves of all
+pub record Turned (guests : List Guest) (retired free : List Bool) (memory : List ℕ) (g : ℕ) (change : Machine → Machine) (after : List Guest) (changed : List ℕ) : Type 0 where
   pub hosted : AreHosted after retired free changed
-  pub machines : machines_of after changed ≡ updated g (λ m. run m k) (machines_of guests memory)
+  pub machines : machines_of after changed ≡ updated g change (machines_of guests memory)
   pub parts : parts_of after ≡ parts_of guests
 
-pub turned : (guests : List Guest) (retired free : List Bool) (memory : List ℕ) (g k : ℕ) (old new : Guest) (changed : List ℕ) → AreHosted guests retired free memory → g < length guests
-    → is_set retired g ≡ false → old ≡ get_or guests g old → HasRun old memory k new changed → IsHosted new changed → Turned guests retired free memory g k (set guests g new) changed
-turned guests retired free memory g k old new changed all g_in active is ran hosted = record {
+pub turned_by : (guests : List Guest) (retired free : List Bool) (memory : List ℕ) (g : ℕ) (change : Machine → Machine) (old new : Guest) (changed : List ℕ)
+    → AreHosted guests retired free memory → g < length guests → is_set retired g ≡ false → old ≡ get_or guests g old → machine_of new changed ≡ change (machine_of old memory)
+    → KeepsLayout old new → Only (changed_by old) memory changed → IsHosted new changed → Turned guests retired free memory g change (set guests g new) changed
+turned_by guests retired free memory g change old new changed all g_in active is made keeps only_own hosted = record {
   hosted = changed_hosted guests retired free memory all g g_in new retired free changed (λ a. hosted) (λ flag. absurd (both_ways (is_set retired g) active flag)) (λ i other. refl)
       others (λ i i_in other. subst (λ part. Apart (named_by (get_or guests i new).part) (named_by part)) (sym own_part) (parts_apart guests i g new all.apart i_in g_in other))
       (λ block flag.
       let was = all.spare block flag in
       still_free guests retired free memory all g g_in new retired free changed (named_by (get_or guests g new).part) block only was (own_free block was) (subst (λ part. Apart (in_blocks (block ∷ [])) (named_by part)) (sym own_part) (own_free block was)));
-  machines = machines_changed guests memory changed g new new (λ m. run m k) g_in (ran.machine ∙ ap (λ guest. run (machine_of guest memory) k) there)
+  machines = machines_changed guests memory changed g new new change g_in (made ∙ ap (λ guest. change (machine_of guest memory)) there)
       (λ i i_in other. other_machine guests retired free memory i new changed all i_in (others i i_in other));
-  parts = map-set_same (λ guest. guest.part) guests g new old (ran.keeps.part ∙ ap (λ guest. guest.part) is);
+  parts = map-set_same (λ guest. guest.part) guests g new old (keeps.part ∙ ap (λ guest. guest.part) is);
 }
   where
     there : old ≡ get_or guests g new
     there = is ∙ get_or_default guests g old new g_in
 
     own_part : new.part ≡ (get_or guests g new).part
-    own_part = ran.keeps.part ∙ ap (λ guest. guest.part) there
+    own_part = keeps.part ∙ ap (λ guest. guest.part) there
 
     only : Only (named_by (get_or guests g new).part) memory changed
-    only = only_in_part (get_or guests g new) memory changed (all.each g new g_in active).placed (subst (λ guest. Only (changed_by guest) memory changed) there ran.only)
+    only = only_in_part (get_or guests g new) memory changed (all.each g new g_in active).placed (subst (λ guest. Only (changed_by guest) memory changed) there only_own)
 
     others : (i : ℕ) → i < length guests → i ≢ g → Same (named_by (get_or guests i new).part) memory changed
     others i i_in other = kept (named_by (get_or guests i new).part) (named_by (get_or guests g new).part) memory changed (parts_apart guests i g new all.apart i_in g_in other) only
 
     own_free : (block : ℕ) → IsFree block (parts_of guests) memory → Apart (in_blocks (block ∷ [])) (named_by (get_or guests g new).part)
     own_free block was = free_from_part guests block memory g new g_in was
+
+pub turned : (guests : List Guest) (retired free : List Bool) (memory : List ℕ) (g k : ℕ) (old new : Guest) (changed : List ℕ) → AreHosted guests retired free memory → g < length guests
+    → is_set retired g ≡ false → old ≡ get_or guests g old → HasRun old memory k new changed → IsHosted new changed
+    → Turned guests retired free memory g (λ m. run m k) (set guests g new) changed
+turned guests retired free memory g k old new changed all g_in active is ran hosted =
+    turned_by guests retired free memory g (λ m. run m k) old new changed all g_in active is ran.machine ran.keeps ran.only hosted
 
 -- what is seen of a guest that is at a place of the list
 pub seen_part : (guests : List Guest) (g : ℕ) (guest : Guest) → g < length guests → guest ≡ get_or guests g guest → part_at (parts_of guests) g ≡ guest.part

@@ -5,6 +5,7 @@ pub mod CalmSteps
 pub mod ClearSteps
 pub mod Current
 pub mod Flags
+pub mod LastTries
 pub mod Leaving
 pub mod Parts
 pub mod Placing
@@ -15,6 +16,7 @@ pub mod Savables
 pub mod SavedRuns
 pub mod Shifting
 pub mod ShownBlocks
+pub mod SingleTries
 pub mod Starting
 pub mod Steps
 pub mod Tries

@@ -49,6 +49,7 @@ pub handed_current : (between new : Guest) (changed last : List ℕ) (result : H
     → (result ≢ handled.Retry → MakesStep (machine_of between changed) (machine_of new last))
     → (result ≡ handled.Retry → Fills (machine_of between changed) (machine_of new last)) → with_pending_lines (platform_of new) ≡ platform_of new
 handed_current between new changed last handled.Stepped e steps fills = after_step (machine_of between changed) (machine_of new last) e (steps (λ e. cc))
+handed_current between new changed last (handled.Trapped into interrupt) e steps fills = after_step (machine_of between changed) (machine_of new last) e (steps (λ e. cc))
 handed_current between new changed last handled.Retry e steps fills = after_fill (machine_of between changed) (machine_of new last) e (fills refl)
 handed_current between new changed last handled.Waits e steps fills = after_step (machine_of between changed) (machine_of new last) e (steps (λ e. cc))
 handed_current between new changed last handled.Stopped e steps fills = after_step (machine_of between changed) (machine_of new last) e (steps (λ e. cc))

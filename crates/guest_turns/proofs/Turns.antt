@@ -18,7 +18,7 @@ use Rattle.guest_exit.specs.declared.hart_exit.Handled.{Handled}
 use Rattle.guest_exit.specs.declared.hart_exit.Handled.TheVariants as handled
 use Rattle.guest_exit.specs.HartExit.{status_after, steps_made}
 use Rattle.guest_exit.specs.Steps.{Fills, IsQuiet, MakesStep}
-use Rattle.guest_turns.specs.Account.{Accounted, AccountedTo}
+use Rattle.guest_turns.specs.Account.{Accounted, AccountedTo, CountsTry}
 use Rattle.guest_turns.specs.Calm.{AreCalm, calm_entries}
 use Rattle.guest_turns.specs.Hosting.{used_by}
 use Rattle.guest_turns.specs.TurnLists.{turn_entries}
@@ -96,6 +96,7 @@ then_made m between last k left rest es more one then =
 -- what the host makes of a step
 abbrev pub events_of : Handled → Machine → List Event
 events_of handled.Stepped m = event_in (try m)
+events_of (handled.Trapped into interrupt) m = event_in (try m)
 events_of handled.Retry m = []
 events_of handled.Waits m = event_in (try m)
 events_of handled.Stopped m = event_in (try m)
@@ -103,6 +104,7 @@ events_of handled.Stopped m = event_in (try m)
 pub handled_made : (m next : Machine) (k : ℕ) (result : Handled) → needed ≤ m.entry_room → 0 < k → m.platform.status ≡ status.Running
     → (result ≢ handled.Retry → MakesStep m next) → (result ≡ handled.Retry → Fills m next) → Made m k next (k - used_by result) (events_of result m)
 handled_made m next k handled.Stepped room some is steps fills = step_made m next k room some is (steps (λ e. cc))
+handled_made m next k (handled.Trapped into interrupt) room some is steps fills = step_made m next k room some is (steps (λ e. cc))
 handled_made m next k handled.Retry room some is steps fills =
     let all : k - 0 ≡ k = omega arith in subst (λ left. Made m k next left []) (sym all) (fill_made m next k room some is (fills refl))
 handled_made m next k handled.Waits room some is steps fills = step_made m next k room some is (steps (λ e. cc))
@@ -127,12 +129,14 @@ exit_made m between last (suc n) k result room some need is running steps fills 
 -- none of what the host makes is plain
 pub no_trace : (m : Machine) (result : Handled) → IsQuiet m → trace_of (events_of result m) ≡ 0
 no_trace m handled.Stepped quiet = quiet.trace
+no_trace m (handled.Trapped into interrupt) quiet = quiet.trace
 no_trace m handled.Retry quiet = refl
 no_trace m handled.Waits quiet = quiet.trace
 no_trace m handled.Stopped quiet = quiet.trace
 
 pub no_plain : (m : Machine) (result : Handled) → IsQuiet m → plain_count (events_of result m) ≡ 0
 no_plain m handled.Stepped quiet = quiet.plain
+no_plain m (handled.Trapped into interrupt) quiet = quiet.plain
 no_plain m handled.Retry quiet = refl
 no_plain m handled.Waits quiet = quiet.plain
 no_plain m handled.Stopped quiet = quiet.plain
@@ -154,18 +158,21 @@ exit_plain m n between result quiet =
 -- what the host uses up of the steps that are left, by what it has made
 pub made_at_most : (result : Handled) → steps_made result ≤ used_by result
 made_at_most handled.Stepped = omega arith
+made_at_most (handled.Trapped into interrupt) = omega arith
 made_at_most handled.Retry = omega arith
 made_at_most handled.Waits = omega arith
 made_at_most handled.Stopped = omega arith
 
 pub made_if_running : (result : Handled) → status_after result ≡ status.Running → steps_made result ≡ used_by result
 made_if_running handled.Stepped is = refl
+made_if_running (handled.Trapped into interrupt) is = refl
 made_if_running handled.Retry is = refl
 made_if_running handled.Waits is = cc
 made_if_running handled.Stopped is = cc
 
 pub used_at_most : (result : Handled) → used_by result ≤ 1
 used_at_most handled.Stepped = omega arith
+used_at_most (handled.Trapped into interrupt) = omega arith
 used_at_most handled.Retry = omega arith
 used_at_most handled.Waits = omega arith
 used_at_most handled.Stopped = omega arith
@@ -182,15 +189,6 @@ pub budget_positive : (m : Machine) (k : ℕ) → 0 < k → 0 < budget m k
 budget_positive m zero some = absurd (omega arith)
 budget_positive m (suc k) some = omega arith
 
--- the account of the events of a part, of which at most one entry is told: none where no instruction is made
-pub record IsCounted (m next : Machine) (es : List Event) (old new : Counts) : Type 0 where
-  pub entries_grow : old.entries ≤ new.entries
-  pub entries_most : new.entries ≤ old.entries + 1
-  pub none : new.entries ≡ old.entries → instruction_count es ≡ 0
-  pub taken_least : old.taken + plain_count es ≤ new.taken
-  pub taken_most : new.taken + m.platform.steps ≤ old.taken + next.platform.steps
-  pub trace : IsRaisedBy (trace_of es) old.trace new.trace
-
 -- if it is calm, it is all that is left, in one entry
 abbrev pub IsOnce : ℕ → Counts → Counts → Type 0
 IsOnce left old new = (left ≡ 0) × (new.entries ≡ old.entries + 1)
@@ -205,7 +203,7 @@ once_to m next k left old new some (none, one) =
     let first = one_entry k some in
     (record { each = λ i within. absurd (omega (arith, none, within)); lasts = λ more. absurd (omega (arith, none, more)) }, omega (arith, no_more, first, one))
 
-pub accounted_part : (m next : Machine) (k left : ℕ) (es : List Event) (old new : Counts) → 0 < k → Made m k next left es → IsCounted m next es old new
+pub accounted_part : (m next : Machine) (k left : ℕ) (es : List Event) (old new : Counts) → 0 < k → Made m k next left es → CountsTry m next es old new
     → (AreCalm m k → IsOnce left old new) → AccountedTo m k next left old new
 accounted_part m next k left es old new some made is once =
     let rest = events next left in

@@ -1,5 +1,6 @@
 -- What the tally says of a turn.
-use Rattle.std.specs.Prelude.{ℕ, ◌≡◌, ◌+◌, ◌%◌, ◌^◌, ◌<◌, ◌≤◌}
+use Rattle.std.specs.Prelude.{ℕ, ◌≡◌, ◌+◌, ◌%◌, ◌^◌, ◌<◌, ◌≤◌, List}
+use Rattle.machine_defs.specs.declared.events.Event.{Event}
 use Rattle.machine_defs.specs.Machine.{Machine}
 use Rattle.machine_defs.specs.Runs.{events, instruction_count, plain_count, trace_of}
 use Rattle.fill_laws.specs.Budgets.{budget}
@@ -23,6 +24,16 @@ pub record Accounted (m : Machine) (k made : ℕ) (old new : Counts) : Type 0 wh
   pub taken_least : old.taken + plain_count (events m k) ≤ new.taken
   pub taken_most : new.taken ≤ old.taken + made
   pub trace : IsRaisedBy (trace_of (events m k)) old.trace new.trace
+
+-- the account of one try, which made these events: it took at most one entry, and one where it made an
+-- instruction; and the hart made each plain step
+pub record CountsTry (m next : Machine) (made : List Event) (old new : Counts) : Type 0 where
+  pub entries_grow : old.entries ≤ new.entries
+  pub entries_most : new.entries ≤ old.entries + 1
+  pub none : new.entries ≡ old.entries → instruction_count made ≡ 0
+  pub taken_least : old.taken + plain_count made ≤ new.taken
+  pub taken_most : new.taken + m.platform.steps ≤ old.taken + next.platform.steps
+  pub trace : IsRaisedBy (trace_of made) old.trace new.trace
 
 -- the account of a part of k steps, after which the next machine makes those that are left: each try took at
 -- most one entry

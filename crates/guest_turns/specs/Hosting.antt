@@ -15,7 +15,7 @@ use Rattle.shadow_pool.specs.Slots.{TidyPool, room_of, spaces_of}
 use Rattle.shadow_space.specs.Shadows.{AreZeros}
 use Rattle.guest_exit.specs.declared.guests.Guest.{Guest}
 use Rattle.guest_exit.specs.declared.hart_exit.Handled.{Handled}
-use Rattle.guest_exit.specs.declared.hart_exit.Handled.TheVariants.{Stepped, Retry, Waits, Stopped}
+use Rattle.guest_exit.specs.declared.hart_exit.Handled.TheVariants.{Stepped, Trapped, Retry, Waits, Stopped}
 use Rattle.guest_exit.specs.Starting.{IsNewPool}
 use Rattle.guest_exit.specs.View.{IsPlaced, KeepsLayout, changed_by, machine_of, platform_of}
 use Rattle.guest_turns.specs.Hosted.{is_set}
@@ -79,6 +79,7 @@ pub record CountsLeft (old : Guest) (k : ℕ) (new : Guest) (left : ℕ) : Type 
 -- good, which is not made, one
 abbrev pub used_by : Handled → ℕ
 used_by Stepped = 1
+used_by (Trapped into interrupt) = 1
 used_by Retry = 0
 used_by Waits = 1
 used_by Stopped = 1

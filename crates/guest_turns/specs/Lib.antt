@@ -7,5 +7,6 @@ pub mod Moves
 pub mod Remaking
 pub mod Saving
 pub mod Sources
+pub mod Tries
 pub mod TurnLists
 pub mod View

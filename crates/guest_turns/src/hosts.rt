@@ -8,17 +8,19 @@ ghost use Rattle.frame_split.specs.Shares.{IsSplit, blocks_of_all, frames_with};
 ghost use Rattle.guest_save.specs.Forms.{form};
 ghost use Rattle.guest_save.specs.Savable.{IsSavable};
 ghost use Rattle.guest_settings.specs.declared.statuses.Status.TheVariants.{Running};
+ghost use Rattle.machine_defs.specs.Fills.{needed};
 ghost use Rattle.machine_defs.specs.Lookups.{looked_up};
 ghost use Rattle.machine_defs.specs.Machine.{start, with_pending_lines};
 ghost use Rattle.machine_defs.specs.Runs.{run};
 ghost use Rattle.outside.specs.Faults.{Rose};
 ghost use Rattle.outside.specs.Pieces.{Puts};
-ghost use Rattle.guest_turns.specs.Account.{Accounted, HasRoomForTurn};
+ghost use Rattle.guest_turns.specs.Account.{Accounted, CountsTry, HasRoomForTurn};
 ghost use Rattle.guest_turns.specs.Hosted.{count_set, is_set, lowest, machine_at, part_at, KeepsShares};
 ghost use Rattle.guest_turns.specs.Limits.{AreBootable, frames_for, needs_of};
 ghost use Rattle.guest_turns.specs.Moves.{HasMoved, HasRetired};
 ghost use Rattle.guest_turns.specs.Saving.{MayBeSaved};
 ghost use Rattle.guest_turns.specs.Sources.{AreBootableSources, machines_of_sources, needs_of_sources};
+ghost use Rattle.guest_turns.specs.Tries.{HasTried, events_made};
 ghost use Rattle.guest_turns.specs.TurnLists.{updated};
 ghost use Rattle.two_stage_walk.specs.Places.{IsPlaceOf};
 
@@ -29,6 +31,7 @@ use crate::memory_views::MemoryView;
 use crate::relocation::{MoveFault, Moves, shift};
 use crate::retirement::vacate;
 use crate::sources::{Source, fresh_sources};
+use crate::trying::{Made, try_of};
 use crate::turning::turn_of;
 use arch_defs::{Access, Virtual};
 use guest_exit::Guest;
@@ -204,6 +207,30 @@ impl Host {
     {
         let guest = &mut self.guests[g as usize];
         turn_of(guest, &mut self.hart, &mut self.memory, k, tally)
+    }
+
+    /// Makes one try of the next step of the machine of a guest that has not retired and goes on. A try fills
+    /// a cached translation that the step lacks, or is the last: it makes the step, and answers what that was,
+    /// or the step waits for good. All other machines stay as they were, and no byte outside the guest's part
+    /// changes. The tally gets the account of the hart.
+    pub fn make_try(&mut self, g: u32, tally: &mut Tally) -> Made
+        requires guest { g < length self.old.machines }
+        requires active { is_set self.old.retired g ≡ false }
+        requires running { (machine_at self.old.machines g).platform.status ≡ Running }
+        requires steps { (machine_at self.old.machines g).platform.steps < 2 ^ 61 }
+        requires entries { tally.old.entries < 2 ^ 62 }
+        requires taken { tally.old.taken < 2 ^ 62 }
+        ensures machines { HasTried result g self.old.machines self.new.machines }
+        ensures shares { KeepsShares self.old self.new }
+        ensures isolated { Only (named_by (part_at self.old.parts g)) self.old.memory self.new.memory }
+        ensures room { (machine_at self.new.machines g).entry_room
+            ≡ (machine_at self.old.machines g).entry_room }
+        ensures needed { needed ≤ (machine_at self.old.machines g).entry_room }
+        ensures account { CountsTry (machine_at self.old.machines g) (machine_at self.new.machines g)
+            (events_made result) tally.old tally.new }
+    {
+        let guest = &mut self.guests[g as usize];
+        try_of(guest, &mut self.hart, &mut self.memory, tally)
     }
 
     /// Appends the form of the machine of a guest that has not retired.

@@ -1,6 +1,7 @@
-// Laws of turns.
+// Laws of turns and of tries.
 
 ghost use Rattle.guest_turns.specs.Calm.{ClearStepsAreCalm};
+ghost use Rattle.guest_turns.specs.Tries.{FillsAreLast, FillsLeaveStep, LastTryIsStep};
 ghost use Rattle.guest_turns.specs.TurnLists.{OrderHasNoEffect, RunsItsOwnTurns, RunsMakeAtMost, TurnsCountAlike, TurnsKeepCount};
 
 /// After turns of guests in any order each lone machine has run for the sum of the steps of its own turns. So
@@ -16,6 +17,14 @@ pub fn turns_are_apart()
 pub fn turns_count_alike()
     ensures alike { TurnsCountAlike }
     ensures most { RunsMakeAtMost }
+{}
+
+/// A try that fills an entry, which is then the last of the front space, leaves the same step, and a try that
+/// lacks none makes it.
+pub fn tries_make_steps()
+    ensures fills { FillsLeaveStep }
+    ensures entry { FillsAreLast }
+    ensures last { LastTryIsStep }
 {}
 
 /// Steps that are plain and fill nothing, and at which no bit of sip or hip is set, are calm together.

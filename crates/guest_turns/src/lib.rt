@@ -11,10 +11,12 @@ mod relocation;
 mod remaking;
 mod retirement;
 mod sources;
+mod trying;
 mod turning;
 
 pub use hosts::Host;
-pub use laws::{clear_steps_are_calm, turns_are_apart, turns_count_alike};
+pub use laws::{clear_steps_are_calm, tries_make_steps, turns_are_apart, turns_count_alike};
 pub use memory_views::MemoryView;
 pub use relocation::{MoveFault, Moves};
 pub use sources::{Source, fresh_sources};
+pub use trying::Made;

@@ -86,6 +86,6 @@ fn used(made: Handled) -> u64
 {
     match made {
         Handled::Retry => 0,
-        Handled::Stepped | Handled::Waits | Handled::Stopped => 1,
+        Handled::Stepped | Handled::Trapped { .. } | Handled::Waits | Handled::Stopped => 1,
     }
 }

@@ -24,6 +24,8 @@ mod nested;
 #[cfg(test)]
 mod saves;
 #[cfg(test)]
+mod single_tries;
+#[cfg(test)]
 mod steps;
 #[cfg(test)]
 mod storable;

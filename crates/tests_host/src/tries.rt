@@ -78,6 +78,14 @@ fn one(guest: &mut Guest, hart: &mut Hart, memory: &mut PhysMem, most: u64, tall
     match stop.why {
         Why::Limit => By::Hart(stop.taken),
         Why::VsTrap => By::HartByTrap(stop.taken),
-        Why::Exit(trap) => By::Host(handle(guest, memory, trap)),
+        Why::Exit(trap) => by_host(handle(guest, memory, trap)),
+    }
+}
+
+// A step of the host, whether or not it was a trap: which it was, the rows of `single_tries` say.
+fn by_host(handled: Handled) -> By {
+    match handled {
+        Handled::Trapped { .. } => By::Host(Handled::Stepped),
+        Handled::Stepped | Handled::Retry | Handled::Waits | Handled::Stopped => By::Host(handled),
     }
 }

@@ -10,7 +10,7 @@ ghost use Rattle.machine_defs.specs.Machine.{with_pending_lines};
 ghost use Rattle.guest_exit.specs.Starting.{IsNewPool};
 ghost use Rattle.guest_exit.specs.View.{IsPlaced, platform_of};
 
-use arch_defs::{Mode, Part, Virtual};
+use arch_defs::{Level, Mode, Part, Virtual};
 use guest_exit::{Console, Guest, Handled, Pool, enter, handle, interrupt, limit};
 use guest_settings::Status;
 use host_tables::build;
@@ -122,9 +122,15 @@ fn a_guest_without_an_image(rt: HostRuntime) -> Result<(), Fail> {
         return Ok(());
     };
     let two = first_two(&mut guest, &mut memory);
-    assert!(rt; two == Some((Outcome::Trapped(1), Outcome::Left(Handled::Stepped))));
+    assert!(rt; two == Some((Outcome::Trapped(1), Outcome::Left(TRAPPED_INTO_HS))));
     Ok(())
 }
+
+// What the host answers at an exception into HS.
+const TRAPPED_INTO_HS: Handled = Handled::Trapped {
+    level: Level::HS,
+    interrupt: false,
+};
 
 // A guest, taken apart: its steps, and whether it has a device page and goes on.
 fn parts_of(guest: Guest) -> (u64, bool, Status) {
@@ -157,13 +163,14 @@ fn what_the_host_keeps_of_a_guest(rt: HostRuntime) -> Result<(), Fail> {
 fn number_of(handled: Handled) -> u8 {
     match handled {
         Handled::Stepped => 0,
-        Handled::Retry => 1,
-        Handled::Waits => 2,
-        Handled::Stopped => 3,
+        Handled::Trapped { .. } => 1,
+        Handled::Retry => 2,
+        Handled::Waits => 3,
+        Handled::Stopped => 4,
     }
 }
 
 #[test]
 fn answers_at_an_exit(rt: HostRuntime) {
-    assert!(rt; number_of(Handled::Stopped) == 3);
+    assert!(rt; number_of(Handled::Stopped) == 4);
 }

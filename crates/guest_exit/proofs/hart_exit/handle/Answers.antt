@@ -31,3 +31,9 @@ returns-clause-quiet c =
 pub returns-clause-keeps : goal.returns-clause-keeps
 returns-clause-keeps c =
     part_kept c.args.guest.now c.make_next.new.guest c.args.memory.now c.make_next.new.memory c.make_next.result c.requires.exited.can.placed c.make_next.ensures.within (returns-clause-does c)
+
+pub returns-clause-event : goal.returns-clause-event
+returns-clause-event c =
+    let m = machine_of c.args.guest.now c.args.memory.now in
+    let is = left c.args.guest.now.part c.args.guest.now.pool m c.args.memory.now c.args.trap c.requires.exited.can.placed c.requires.exited.hands in
+    rw is.step c.make_next.ensures.event

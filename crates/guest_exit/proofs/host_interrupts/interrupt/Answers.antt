@@ -5,7 +5,7 @@ use Rattle.machine_defs.specs.Machine.{ticked}
 use Rattle.arch_defs.proofs.FrameSets.{only_none}
 use Rattle.guest_exit.specs.View.{machine_of, platform_of}
 use Rattle.guest_exit.proofs.Alone.{machine_is, stays_by}
-use Rattle.guest_exit.proofs.Entries.{interrupted}
+use Rattle.guest_exit.proofs.Entries.{hosts_target, interrupted}
 use Rattle.guest_exit.proofs.Placed.{placed_by_step}
 use Rattle.hosted_steps.proofs.Taken.{entered_first}
 use Rattle.guest_exit.proofs.host_interrupts.interrupt.Goals as goal
@@ -21,11 +21,15 @@ returns-then-is_hosts-clause-takes c = λ yes.
       step = λ memory. record {
         ready = (is memory).0;
         step = rw (is memory).1 (machine_is c.args.guest.now c.tick.new.self _ memory (record { part = c.tick.ensures.keeps.part; device = c.tick.ensures.keeps.device; pool = c.tick.ensures.keeps.pool })
-            (rw (c.take.ensures, c.of_interrupt.ensures) at c.tick.ensures.platform
+            (rw (c.take.ensures.enters, c.of_interrupt.ensures) at c.tick.ensures.platform
             ∙ ap ticked (sym (entered_first (platform_of c.args.guest.now) (interrupt_of c.in-Some.code) (target c.args.guest.now.virt.csrs c.args.guest.now.virt.mode (interrupt_of c.in-Some.code))))));
       };
       quiet = λ memory. record { trace = rw (is memory).1 refl; plain = rw (is memory).1 refl };
       none = λ memory. rw (is memory).1 refl;
+      event = λ memory. rw (
+        (is memory).1,
+        hosts_target c.args.guest.now.virt.csrs c.args.guest.now.virt.mode c.in-Some.code (sym c.is_hosts.ensures ∙ c.if-is_hosts.true),
+      ) refl;
       made = c.tick.ensures.made;
       clock = c.tick.ensures.clock;
     }

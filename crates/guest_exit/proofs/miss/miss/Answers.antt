@@ -1,7 +1,6 @@
 use Rattle.std.proofs.Common.{◌≡◌, ◌∙◌, true, false, refl, ap, sym}
-use Rattle.machine_defs.specs.Runs.{left_by}
+use Rattle.machine_defs.specs.Runs.{event_in, left_by}
 use Rattle.machine_defs.specs.Tries.{device_of, unplaced}
-use Rattle.guest_exit.specs.declared.hart_exit.Handled.TheVariants as handled
 use Rattle.hosted_steps.specs.ExitCases.{data_wanted, having_found}
 use Rattle.guest_exit.specs.View.{machine_of}
 use Rattle.shadow_pool.specs.Slots.{spaces_of}
@@ -43,7 +42,7 @@ returns-then-has_on_device-clause-makes c =
     record {
       ready = λ went. none_on_device m missing on;
       step = λ went. c.access_device.ensures.step c.args.memory.now ∙ ap (λ b. left_by m (unplaced (having_found c.args.found.now m) missing (data_wanted m) b)) (sym on);
-      fill = λ retry. let never : handled.Stepped ≡ handled.Retry = sym c.access_device.ensures.went ∙ retry in absurd (cc);
+      fill = λ retry. absurd (c.access_device.ensures.went retry);
     }
 
 pub returns-in-None-clause-makes : goal.returns-in-None-clause-makes
@@ -55,7 +54,7 @@ returns-in-None-clause-makes c =
       ready = λ went. sym c.entry_for.ensures.entry ∙ c.in-None.is;
       step = λ went. (rw c.entry_for.ensures.stays at c.raise_fault.ensures.step c.args.memory.now)
           ∙ ap (λ b. left_by m (unplaced (having_found c.args.found.now m) missing (data_wanted m) b)) (sym off);
-      fill = λ retry. let never : handled.Stepped ≡ handled.Retry = sym c.raise_fault.ensures.went ∙ retry in absurd (cc);
+      fill = λ retry. absurd (c.raise_fault.ensures.went retry);
     })
 
 -- whatever the answer is
@@ -70,3 +69,22 @@ returns-in-Some-clause-quiet c =
 pub returns-in-None-clause-quiet : goal.returns-in-None-clause-quiet
 returns-in-None-clause-quiet c =
     let m = machine_of c.args.guest.now c.args.memory.now in unplaced_is_quiet (having_found c.args.found.now m) c.args.access.now (data_wanted m) (device_of m c.args.access.now.address c.args.access.now.kind)
+
+-- the event is that of what is made
+pub returns-then-has_on_device-clause-event : goal.returns-then-has_on_device-clause-event
+returns-then-has_on_device-clause-event c = λ went.
+    let m = machine_of c.args.guest.now c.args.memory.now in
+    let missing = c.args.access.now in
+    let on : device_of m missing.address missing.kind ≡ true = sym (c.has_on_device.ensures c.args.memory.now) ∙ c.if-has_on_device.true in
+    ap (λ b. event_in (unplaced (having_found c.args.found.now m) missing (data_wanted m) b)) on ∙ c.access_device.ensures.event c.args.memory.now
+
+pub returns-in-Some-clause-event : goal.returns-in-Some-clause-event
+returns-in-Some-clause-event c = λ went. absurd (went refl)
+
+pub returns-in-None-clause-event : goal.returns-in-None-clause-event
+returns-in-None-clause-event c = λ went.
+    let m = machine_of c.args.guest.now c.args.memory.now in
+    let missing = c.args.access.now in
+    let off : device_of m missing.address missing.kind ≡ false = sym (c.has_on_device.ensures c.args.memory.now) ∙ c.if-has_on_device.false in
+    ap (λ b. event_in (unplaced (having_found c.args.found.now m) missing (data_wanted m) b)) off
+    ∙ (rw c.entry_for.ensures.stays at c.raise_fault.ensures.event c.args.memory.now)

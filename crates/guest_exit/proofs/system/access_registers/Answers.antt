@@ -1,4 +1,4 @@
-use Rattle.std.proofs.Common.{ap, sym, ◌∙◌}
+use Rattle.std.proofs.Common.{ap, refl, sym, ◌∙◌}
 use Rattle.arch_defs.specs.FirstEntries.{all_filled}
 use Rattle.machine_defs.specs.Tries.{mmu_of}
 use Rattle.guest_exit.specs.View.{machine_of}
@@ -18,3 +18,12 @@ returns-in-Done-clause-step c =
     let ends = c.in-Done.ensures.ends (mmu_of m) in
     let filled = c.fill.ensures ∙ ap (λ first. all_filled first c.args.found.now) (kept_first m c.args.op.now _ ends) in
     rw ends (c.finish.ensures.step (record c.args.guest.now.virt { first = all_filled c.args.guest.now.virt.first c.args.found.now }) (sym c.is_virtual-nested.ensures) (sym filled))
+
+pub returns-in-Done-clause-event : goal.returns-in-Done-clause-event
+returns-in-Done-clause-event c =
+    let m = machine_of c.args.guest.now c.args.memory.now in rw (c.in-Done.ensures.ends (mmu_of m), c.finish.ensures.went) refl
+
+pub returns-in-Raise-clause-event : goal.returns-in-Raise-clause-event
+returns-in-Raise-clause-event c =
+    let m = machine_of c.args.guest.now c.args.memory.now in
+    rw (c.in-Raise.ensures.ends (mmu_of m), c.raise.ensures.went, c.in-Raise.ensures.stays) refl

@@ -1,4 +1,4 @@
-use Rattle.std.proofs.Common.{ap, sym, ◌∙◌}
+use Rattle.std.proofs.Common.{ap, refl, sym, ◌∙◌}
 use Rattle.arch_defs.specs.FirstEntries.{all_filled}
 use Rattle.machine_defs.specs.Machine.{Platform}
 use Rattle.arch_defs.specs.Registers.{passed}
@@ -6,7 +6,7 @@ use Rattle.machine_defs.specs.Tries.{mmu_of}
 use Rattle.rv64_asm.specs.Words.{encoded}
 use Rattle.hosted_steps.specs.ExitCases.{having_found}
 use Rattle.guest_exit.specs.View.{machine_of}
-use Rattle.guest_exit.proofs.Alone.{wait_made, waited_is_quiet}
+use Rattle.guest_exit.proofs.Alone.{wait_made, wait_told, waited_is_quiet}
 use Rattle.guest_exit.proofs.Decided.{accesses_never, caching_storable, done_storable, kept_first, wait_is_op, wait_passes}
 use Rattle.guest_exit.proofs.system.wait_or_fence.Goals as goal
 
@@ -67,3 +67,28 @@ returns-in-FirstFenced-clause-step c =
     let ends = c.in-FirstFenced.ensures.ends (mmu_of m) in
     let filled = c.fill-in-FirstFenced.ensures ∙ ap (λ first. all_filled first c.args.found.now) (kept_first m c.args.op.now _ ends) in
     rw ends (rw (filled, c.unwrap_or.ensures, c.tag_of-own.ensures) at (c.first_fence.ensures.step c.args.memory.now))
+
+-- the event of each
+pub returns-in-Done-clause-event : goal.returns-in-Done-clause-event
+returns-in-Done-clause-event c =
+    let m = machine_of c.args.guest.now c.args.memory.now in rw (c.in-Done.ensures.ends (mmu_of m), c.finish.ensures.went) refl
+
+pub returns-in-Waits-clause-event : goal.returns-in-Waits-clause-event
+returns-in-Waits-clause-event c =
+    let m = machine_of c.args.guest.now c.args.memory.now in
+    let ends = c.in-Waits.ensures.ends (mmu_of m) in
+    wait_told c.args.guest.now c.emulate.new.state c.args.found.now c.args.memory.now _ _
+    (wait_passes c.args.op.now m.platform.virt c.emulate.new.state (encoded c.args.op.now) (mmu_of m) c.requires.kind ends) ends c.wait.ensures.event
+
+pub returns-in-Fenced-clause-event : goal.returns-in-Fenced-clause-event
+returns-in-Fenced-clause-event c =
+    let m = machine_of c.args.guest.now c.args.memory.now in rw (c.in-Fenced.ensures.ends (mmu_of m), c.fence.ensures.went) refl
+
+pub returns-in-FirstFenced-clause-event : goal.returns-in-FirstFenced-clause-event
+returns-in-FirstFenced-clause-event c =
+    let m = machine_of c.args.guest.now c.args.memory.now in rw (c.in-FirstFenced.ensures.ends (mmu_of m), c.first_fence.ensures.went) refl
+
+pub returns-in-Raise-clause-event : goal.returns-in-Raise-clause-event
+returns-in-Raise-clause-event c =
+    let m = machine_of c.args.guest.now c.args.memory.now in
+    rw (c.in-Raise.ensures.ends (mmu_of m), c.raise.ensures.went, c.in-Raise.ensures.stays) refl

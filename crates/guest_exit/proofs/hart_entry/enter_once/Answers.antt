@@ -1,0 +1,166 @@
+use Rattle.std.proofs.Common.{◌≡◌, ◌+◌, ap, refl, subst, ◌∙◌, arith}
+use Rattle.rv64_hart.specs.Steps.{is_vs_trap, progress}
+use Rattle.guest_exit.specs.Steps.{MakesSteps}
+use Rattle.guest_exit.specs.View.{loaded_for, machine_of}
+use Rattle.guest_exit.proofs.Entries.{steps_from}
+use Rattle.guest_exit.proofs.Moments.{before_timer}
+use Rattle.guest_exit.proofs.SingleEntries.{enters_once, left_once}
+use Rattle.guest_exit.proofs.StepEvents.{one_taken, other_shown, shown, trap_shown}
+use Rattle.guest_exit.proofs.hart_entry.enter_once.Goals as goal
+
+pub take_steps-requires-clause-event : goal.take_steps-requires-clause-event
+take_steps-requires-clause-event c =
+    before_timer c.args.guest.now.clock 1 c.run-stop.result.taken c.requires.can.lasts.timer c.run-stop.ensures.within
+
+-- at the limit one step is made
+pub returns-in-Limit-clause-run : goal.returns-in-Limit-clause-run
+returns-in-Limit-clause-run c =
+    let guest = c.args.guest.now in
+    let stop = c.run-stop.result in
+    let steps = steps_from _ guest.part guest.pool guest.virt c.args.memory.now c.args.tally.now.trace stop.taken _
+    (rw (c.load.ensures.has, c.root_frame_of-root.ensures) at c.run-stop.ensures.steps) in
+    let one = enters_once guest c.take_steps.new.self c.args.memory.now c.run-stop.new.memory c.run-stop.new.self.state c.args.tally.now.trace c.run-stop.new.tally.trace stop.taken (is_vs_trap stop.why)
+    c.requires.can c.run-stop.ensures.within steps (rw (c.is_vs_trap.ensures, c.state.ensures) at c.take_steps.ensures.platform) c.take_steps.ensures.keeps in
+    subst (λ n. MakesSteps n (machine_of guest c.args.memory.now) (machine_of c.take_steps.new.self c.run-stop.new.memory)) (rw c.in-Limit.is at c.run-stop.ensures.why) one.run
+
+pub returns-in-Limit-clause-keeps : goal.returns-in-Limit-clause-keeps
+returns-in-Limit-clause-keeps c =
+    let guest = c.args.guest.now in
+    let stop = c.run-stop.result in
+    let steps = steps_from _ guest.part guest.pool guest.virt c.args.memory.now c.args.tally.now.trace stop.taken _
+    (rw (c.load.ensures.has, c.root_frame_of-root.ensures) at c.run-stop.ensures.steps) in
+    (enters_once guest c.take_steps.new.self c.args.memory.now c.run-stop.new.memory c.run-stop.new.self.state c.args.tally.now.trace c.run-stop.new.tally.trace stop.taken (is_vs_trap stop.why)
+    c.requires.can c.run-stop.ensures.within steps (rw (c.is_vs_trap.ensures, c.state.ensures) at c.take_steps.ensures.platform) c.take_steps.ensures.keeps).keeps
+
+pub returns-in-Limit-clause-account : goal.returns-in-Limit-clause-account
+returns-in-Limit-clause-account c =
+    let guest = c.args.guest.now in
+    let stop = c.run-stop.result in
+    let steps = steps_from _ guest.part guest.pool guest.virt c.args.memory.now c.args.tally.now.trace stop.taken _
+    (rw (c.load.ensures.has, c.root_frame_of-root.ensures) at c.run-stop.ensures.steps) in
+    let one = enters_once guest c.take_steps.new.self c.args.memory.now c.run-stop.new.memory c.run-stop.new.self.state c.args.tally.now.trace c.run-stop.new.tally.trace stop.taken (is_vs_trap stop.why)
+    c.requires.can c.run-stop.ensures.within steps (rw (c.is_vs_trap.ensures, c.state.ensures) at c.take_steps.ensures.platform) c.take_steps.ensures.keeps in
+    let taken : stop.taken ≡ 1 = rw c.in-Limit.is at c.run-stop.ensures.why in
+    record { entries = c.run-stop.ensures.entries; taken = c.run-stop.ensures.taken ∙ ap (λ n. c.args.tally.now.taken + n) taken; trace = rw taken at one.trace }
+
+pub returns-in-Limit-clause-event : goal.returns-in-Limit-clause-event
+returns-in-Limit-clause-event c =
+    let guest = c.args.guest.now in
+    let stop = c.run-stop.result in
+    let m = machine_of guest c.args.memory.now in
+    let t = c.args.tally.now.trace in
+    let q = progress c.run-stop.new.self.state c.run-stop.new.memory c.run-stop.new.tally.trace (is_vs_trap stop.why) in
+    let steps = steps_from _ guest.part guest.pool guest.virt c.args.memory.now t stop.taken q
+    (rw (c.load.ensures.has, c.root_frame_of-root.ensures) at c.run-stop.ensures.steps) in
+    let is = shown guest.part guest.pool m c.args.memory.now t stop.taken q c.requires.can.lasts.own c.requires.can.placed (rw c.in-Limit.is at c.run-stop.ensures.why) steps in
+    other_shown m t _ q c.event_by.result is (rw c.in-Limit.is refl) c.requires.can.placed.storable.pc.0 (omega (arith, c.trace-trace.ensures.trace, c.trace-trace.ensures.small))
+    (omega (arith, c.trace-trace.ensures.trace, c.trace-trace.ensures.small, c.trace.ensures.trace, c.trace.ensures.small)) (omega arith)
+    (record { system = c.event_by.ensures.system; plain = c.event_by.ensures.plain })
+
+-- and so it is before a trap into VS
+pub returns-in-VsTrap-clause-run : goal.returns-in-VsTrap-clause-run
+returns-in-VsTrap-clause-run c =
+    let guest = c.args.guest.now in
+    let stop = c.run-stop.result in
+    let q = progress c.run-stop.new.self.state c.run-stop.new.memory c.run-stop.new.tally.trace (is_vs_trap stop.why) in
+    let steps = steps_from _ guest.part guest.pool guest.virt c.args.memory.now c.args.tally.now.trace stop.taken q
+    (rw (c.load.ensures.has, c.root_frame_of-root.ensures) at c.run-stop.ensures.steps) in
+    let one = enters_once guest c.take_steps.new.self c.args.memory.now c.run-stop.new.memory c.run-stop.new.self.state c.args.tally.now.trace c.run-stop.new.tally.trace stop.taken (is_vs_trap stop.why)
+    c.requires.can c.run-stop.ensures.within steps (rw (c.is_vs_trap.ensures, c.state.ensures) at c.take_steps.ensures.platform) c.take_steps.ensures.keeps in
+    subst (λ n. MakesSteps n (machine_of guest c.args.memory.now) (machine_of c.take_steps.new.self c.run-stop.new.memory))
+    (one_taken stop.taken (loaded_for guest) c.args.memory.now c.args.tally.now.trace q c.run-stop.ensures.within steps (rw c.in-VsTrap.is refl)) one.run
+
+pub returns-in-VsTrap-clause-keeps : goal.returns-in-VsTrap-clause-keeps
+returns-in-VsTrap-clause-keeps c =
+    let guest = c.args.guest.now in
+    let stop = c.run-stop.result in
+    let steps = steps_from _ guest.part guest.pool guest.virt c.args.memory.now c.args.tally.now.trace stop.taken _
+    (rw (c.load.ensures.has, c.root_frame_of-root.ensures) at c.run-stop.ensures.steps) in
+    (enters_once guest c.take_steps.new.self c.args.memory.now c.run-stop.new.memory c.run-stop.new.self.state c.args.tally.now.trace c.run-stop.new.tally.trace stop.taken (is_vs_trap stop.why)
+    c.requires.can c.run-stop.ensures.within steps (rw (c.is_vs_trap.ensures, c.state.ensures) at c.take_steps.ensures.platform) c.take_steps.ensures.keeps).keeps
+
+pub returns-in-VsTrap-clause-account : goal.returns-in-VsTrap-clause-account
+returns-in-VsTrap-clause-account c =
+    let guest = c.args.guest.now in
+    let stop = c.run-stop.result in
+    let q = progress c.run-stop.new.self.state c.run-stop.new.memory c.run-stop.new.tally.trace (is_vs_trap stop.why) in
+    let steps = steps_from _ guest.part guest.pool guest.virt c.args.memory.now c.args.tally.now.trace stop.taken q
+    (rw (c.load.ensures.has, c.root_frame_of-root.ensures) at c.run-stop.ensures.steps) in
+    let one = enters_once guest c.take_steps.new.self c.args.memory.now c.run-stop.new.memory c.run-stop.new.self.state c.args.tally.now.trace c.run-stop.new.tally.trace stop.taken (is_vs_trap stop.why)
+    c.requires.can c.run-stop.ensures.within steps (rw (c.is_vs_trap.ensures, c.state.ensures) at c.take_steps.ensures.platform) c.take_steps.ensures.keeps in
+    let taken = one_taken stop.taken (loaded_for guest) c.args.memory.now c.args.tally.now.trace q c.run-stop.ensures.within steps (rw c.in-VsTrap.is refl) in
+    record { entries = c.run-stop.ensures.entries; taken = c.run-stop.ensures.taken ∙ ap (λ n. c.args.tally.now.taken + n) taken; trace = rw taken at one.trace }
+
+pub returns-in-VsTrap-clause-goes : goal.returns-in-VsTrap-clause-goes
+returns-in-VsTrap-clause-goes c =
+    let guest = c.args.guest.now in
+    let stop = c.run-stop.result in
+    let q = progress c.run-stop.new.self.state c.run-stop.new.memory c.run-stop.new.tally.trace (is_vs_trap stop.why) in
+    let steps = steps_from _ guest.part guest.pool guest.virt c.args.memory.now c.args.tally.now.trace stop.taken q
+    (rw (c.load.ensures.has, c.root_frame_of-root.ensures) at c.run-stop.ensures.steps) in
+    let taken = one_taken stop.taken (loaded_for guest) c.args.memory.now c.args.tally.now.trace q c.run-stop.ensures.within steps (rw c.in-VsTrap.is refl) in
+    record {
+      status = c.take_steps.ensures.status ∙ c.requires.can.running;
+      steps = c.take_steps.ensures.made ∙ ap (λ n. guest.steps + n) taken;
+      clock = c.take_steps.ensures.clock ∙ ap (λ n. guest.clock.time + n) taken;
+      current = c.take_steps.ensures.current;
+    }
+
+pub returns-in-VsTrap-clause-event : goal.returns-in-VsTrap-clause-event
+returns-in-VsTrap-clause-event c =
+    let guest = c.args.guest.now in
+    let stop = c.run-stop.result in
+    let m = machine_of guest c.args.memory.now in
+    let t = c.args.tally.now.trace in
+    let q = progress c.run-stop.new.self.state c.run-stop.new.memory c.run-stop.new.tally.trace (is_vs_trap stop.why) in
+    let steps = steps_from _ guest.part guest.pool guest.virt c.args.memory.now t stop.taken q
+    (rw (c.load.ensures.has, c.root_frame_of-root.ensures) at c.run-stop.ensures.steps) in
+    let taken = one_taken stop.taken (loaded_for guest) c.args.memory.now t q c.run-stop.ensures.within steps (rw c.in-VsTrap.is refl) in
+    let is = shown guest.part guest.pool m c.args.memory.now t stop.taken q c.requires.can.lasts.own c.requires.can.placed taken steps in
+    rw (c.hosted_level-level.ensures, c.is_interrupted-interrupt.ensures) (trap_shown m t q is (rw c.in-VsTrap.is refl))
+
+-- a step that the hart leaves is not made
+pub returns-in-Exit-clause-run : goal.returns-in-Exit-clause-run
+returns-in-Exit-clause-run c =
+    let guest = c.args.guest.now in
+    let stop = c.run-stop.result in
+    let steps = steps_from _ guest.part guest.pool guest.virt c.args.memory.now c.args.tally.now.trace stop.taken _
+    (rw (c.load.ensures.has, c.root_frame_of-root.ensures) at c.run-stop.ensures.steps) in
+    let one = enters_once guest c.take_steps.new.self c.args.memory.now c.run-stop.new.memory c.run-stop.new.self.state c.args.tally.now.trace c.run-stop.new.tally.trace stop.taken (is_vs_trap stop.why)
+    c.requires.can c.run-stop.ensures.within steps (rw (c.is_vs_trap.ensures, c.state.ensures) at c.take_steps.ensures.platform) c.take_steps.ensures.keeps in
+    let taken : stop.taken ≡ 0 = omega (arith, (rw c.in-Exit.is at c.run-stop.ensures.why).0) in
+    subst (λ n. MakesSteps n (machine_of guest c.args.memory.now) (machine_of c.take_steps.new.self c.run-stop.new.memory)) taken one.run
+
+pub returns-in-Exit-clause-keeps : goal.returns-in-Exit-clause-keeps
+returns-in-Exit-clause-keeps c =
+    let guest = c.args.guest.now in
+    let stop = c.run-stop.result in
+    let steps = steps_from _ guest.part guest.pool guest.virt c.args.memory.now c.args.tally.now.trace stop.taken _
+    (rw (c.load.ensures.has, c.root_frame_of-root.ensures) at c.run-stop.ensures.steps) in
+    (enters_once guest c.take_steps.new.self c.args.memory.now c.run-stop.new.memory c.run-stop.new.self.state c.args.tally.now.trace c.run-stop.new.tally.trace stop.taken (is_vs_trap stop.why)
+    c.requires.can c.run-stop.ensures.within steps (rw (c.is_vs_trap.ensures, c.state.ensures) at c.take_steps.ensures.platform) c.take_steps.ensures.keeps).keeps
+
+pub returns-in-Exit-clause-account : goal.returns-in-Exit-clause-account
+returns-in-Exit-clause-account c =
+    let guest = c.args.guest.now in
+    let stop = c.run-stop.result in
+    let steps = steps_from _ guest.part guest.pool guest.virt c.args.memory.now c.args.tally.now.trace stop.taken _
+    (rw (c.load.ensures.has, c.root_frame_of-root.ensures) at c.run-stop.ensures.steps) in
+    let one = enters_once guest c.take_steps.new.self c.args.memory.now c.run-stop.new.memory c.run-stop.new.self.state c.args.tally.now.trace c.run-stop.new.tally.trace stop.taken (is_vs_trap stop.why)
+    c.requires.can c.run-stop.ensures.within steps (rw (c.is_vs_trap.ensures, c.state.ensures) at c.take_steps.ensures.platform) c.take_steps.ensures.keeps in
+    let taken : stop.taken ≡ 0 = omega (arith, (rw c.in-Exit.is at c.run-stop.ensures.why).0) in
+    record { entries = c.run-stop.ensures.entries; taken = c.run-stop.ensures.taken ∙ ap (λ n. c.args.tally.now.taken + n) taken; trace = rw taken at one.trace }
+
+pub returns-in-Exit-clause-event : goal.returns-in-Exit-clause-event
+returns-in-Exit-clause-event c =
+    let guest = c.args.guest.now in
+    let stop = c.run-stop.result in
+    let t = c.args.tally.now.trace in
+    let q = progress c.run-stop.new.self.state c.run-stop.new.memory c.run-stop.new.tally.trace (is_vs_trap stop.why) in
+    let steps = steps_from _ guest.part guest.pool guest.virt c.args.memory.now t stop.taken q
+    (rw (c.load.ensures.has, c.root_frame_of-root.ensures) at c.run-stop.ensures.steps) in
+    let one = enters_once guest c.take_steps.new.self c.args.memory.now c.run-stop.new.memory c.run-stop.new.self.state t c.run-stop.new.tally.trace stop.taken (is_vs_trap stop.why)
+    c.requires.can c.run-stop.ensures.within steps (rw (c.is_vs_trap.ensures, c.state.ensures) at c.take_steps.ensures.platform) c.take_steps.ensures.keeps in
+    let why = rw c.in-Exit.is at c.run-stop.ensures.why in
+    left_once guest c.take_steps.new.self c.args.memory.now c.run-stop.new.memory c.run-stop.new.self.state t c.run-stop.new.tally.trace stop.taken c.in-Exit.trap
+    c.requires.can c.run-stop.ensures.within (rw c.in-Exit.is at steps) why.0 why.1 one.run
