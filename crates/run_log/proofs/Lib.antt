@@ -1,0 +1,5 @@
+pub mod Changed
+pub mod FewUses
+mod Told
+pub mod Uncached
+mod Unique

@@ -1,0 +1,11 @@
+pub mod Calls
+pub mod Counts
+pub mod Fences
+pub mod Fills
+pub mod Laws
+pub mod Log
+pub mod Seen
+pub mod Stale
+pub mod Steps
+pub mod Traps
+pub mod Uses
