@@ -53,11 +53,14 @@ supported_text =
 abbrev pub actions_text : List ℕ
 actions_text = codes "vCont;c;C;s;S"
 
--- a part of the description: `m` before one that is not the last, and `l` before one that is
+-- what stands before a part of that many bytes, of as many as are left: `l` before the last part, else `m`
+abbrev pub part_mark : ℕ → ℕ → List ℕ
+part_mark part left = if nat_lt part left then codes "m" else codes "l"
+
+-- a part of the description
 abbrev pub description_part : List ℕ → Place → List ℕ
-description_part description place = (if nat_lt (length (take place.length (drop place.address description)))
-    (length (drop place.address description)) then codes "m" else codes "l")
-    ++ take place.length (drop place.address description)
+description_part description place = let left = drop place.address description in
+    let part = take place.length left in part_mark (length part) (length left) ++ part
 
 -- why a run has stopped: at its end in this direction, or at an address or after a step
 abbrev pub stop_or_end : Bool → List ℕ → List ℕ

@@ -5,7 +5,7 @@ ghost use Rattle.gdb_packets.specs.Digits.{hex};
 ghost use Rattle.gdb_commands.specs.declared.commands.Command.TheVariants as command;
 ghost use Rattle.run_positions.specs.Looks.{offset_of};
 ghost use Rattle.run_positions.specs.Positions.{shown_of};
-ghost use Rattle.gdb_stub.specs.Answers.{answer_to, clear_text, fixed_text, line_at, description_part, look_text, position_line, walk_line};
+ghost use Rattle.gdb_stub.specs.Answers.{answer_to, clear_text, fixed_text, line_at, part_mark, description_part, look_text, position_line, walk_line};
 ghost use Rattle.gdb_stub.specs.Sessions.{recording_of, machine_shown, state_after, session_state, ShowsPosition, KeepsSession};
 
 use crate::looking::memory;
@@ -49,13 +49,20 @@ fn front(bytes: &[u8], n: u64) -> &[u8]
     }
 }
 
+// What stands before a part of that many bytes, of as many as are left.
+fn part_mark(part: usize, left: usize) -> &'static [u8]
+    ensures { result.now ≡ part_mark part left }
+{
+    if part < left { b"m" } else { b"l" }
+}
+
 // A part of the description.
 fn part_of(alloc: Global, description: &[u8], place: Place) -> Result<Vec<u8>, NoMemory>
     ensures { IfOk result (λ text. text.items ≡ description_part description.now place) }
 {
     let rest = behind(description, place.address);
     let part = front(rest, place.length);
-    let mut text = text_of(alloc, if part.len() < rest.len() { b"m" } else { b"l" })?;
+    let mut text = text_of(alloc, part_mark(part.len(), rest.len()))?;
     text.extend_from_slice(part)?;
     Ok(text)
 }
