@@ -162,7 +162,7 @@ def placed(data: bytes) -> bytes:
         found = [without(each, headers_in(each, header)) for each in segments_of(data, header)]
     except Wrong:
         return b""
-    segments = sorted(segment for segment in found if segment.length)
+    segments = sorted(segment for segment in found if segment.data)
     if not segments or segments[-1].end() - segments[0].place > 1 << 26:
         return b""
     made = bytearray(max(segment.place + len(segment.data) for segment in segments) - segments[0].place)

@@ -74,7 +74,7 @@ def elf_at(path: str) -> Elf | None:
     try:
         with open(path, "rb") as file:
             return Elf(file.read())
-    except (OSError, ValueError, struct.error, IndexError):
+    except (OSError, ValueError, OverflowError, struct.error, IndexError):
         return None
 
 

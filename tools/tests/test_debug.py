@@ -99,5 +99,6 @@ class PlacedTest(unittest.TestCase):
         from nesthv_tools import elf_images
         self.assertEqual(elf_images.placed(elf((0x2000, b"b"), (0x1000, b"a"))), b"a" + bytes(0xFFF) + b"b")
         self.assertEqual(elf_images.placed(with_headers(b"a")), b"a")
+        self.assertEqual(elf_images.placed(elf((0x1000, b"a"), (0x2000, b"", 4096))), b"a")
         for data in (b"", b"none", elf()[:70], elf((0, b"a"), (2**40, b"b")), struct.pack("<I", 0)):
             self.assertEqual(elf_images.placed(data), b"")

@@ -7,6 +7,7 @@ import unittest
 
 from elf_files import RAM, elf, with_headers
 from helper import LETTER, LETTER_REPORT, LOOP, ToolTest
+from nesthv_tools import symbols
 
 # What cannot be a guest, and what is said of it.
 REFUSED = [
@@ -32,6 +33,16 @@ REFUSED = [
     (elf()[:100], "it ends within its program headers"),
     (elf()[:40], "it ends within the header of an ELF file"),
 ]
+
+
+class SymbolsTest(ToolTest):
+    def test_sections_that_are_too_far(self):
+        """The place of the sections is a number of 64 bits, which need not be one of a file."""
+        data = bytearray(elf())
+        for at in (2**64 - 1, 2**63, 2**40):
+            struct.pack_into("<Q", data, 40, at)
+            struct.pack_into("<2H", data, 58, 64, 1)
+            self.assertIsNone(symbols.elf_at(self.put("far.elf", bytes(data))))
 
 
 class ElfTest(ToolTest):
