@@ -84,15 +84,22 @@ used_front : (o : Option GuestRoot) (key : GuestRoot) (es : List Entry) (rest : 
 used_front None key es rest some = absurd cc
 used_front (Some other) key es rest some = refl
 
+-- so its entries are those of that table
+pub entries_spare : (slots : List Slot) (d : Slot) → AllPairs ComesBefore slots → (get_or slots 0 d).key ≡ None → [] ≡ front (spaces_in slots)
+entries_spare [] d order none = refl
+entries_spare (slot ∷ slots) d order none =
+    sym (spare_front slot.key slot.space.entries (spaces_in slots) (λ none. all_spare slots (λ k d h. (pairs_first ComesBefore slot slots order k d h).spare none)) none)
+
+pub entries_used : (slots : List Slot) (d : Slot) (key : GuestRoot) → 1 ≤ length slots → (get_or slots 0 d).key ≡ Some key
+    → (get_or slots 0 d).space.entries ≡ front (spaces_in slots)
+entries_used [] d key inside some = absurd (omega (arith, inside))
+entries_used (slot ∷ slots) d key inside some = sym (used_front slot.key key slot.space.entries (spaces_in slots) some)
+
 pub front_spare : (slots : List Slot) (d : Slot) (mxr : Bool) (address : ℕ) (access : Access) → AllPairs ComesBefore slots → (get_or slots 0 d).key ≡ None
     → device_by_entries (front (spaces_in slots)) mxr address access ≡ false
 unfolding device_by_entries
-front_spare [] d mxr address access order none = refl
-front_spare (slot ∷ slots) d mxr address access order none = ap (λ entries. device_by mxr access (entry_at (address / 4096) entries))
-    (spare_front slot.key slot.space.entries (spaces_in slots) (λ none. all_spare slots (λ k d h. (pairs_first ComesBefore slot slots order k d h).spare none)) none)
+front_spare slots d mxr address access order none = ap (λ entries. device_by mxr access (entry_at (address / 4096) entries)) (sym (entries_spare slots d order none))
 
 pub front_used : (slots : List Slot) (d : Slot) (key : GuestRoot) (mxr : Bool) (address : ℕ) (access : Access) → 1 ≤ length slots → (get_or slots 0 d).key ≡ Some key
     → device_by_entries (get_or slots 0 d).space.entries mxr address access ≡ device_by_entries (front (spaces_in slots)) mxr address access
-front_used [] d key mxr address access inside some = absurd (omega (arith, inside))
-front_used (slot ∷ slots) d key mxr address access inside some =
-    ap (λ entries. device_by_entries entries mxr address access) (sym (used_front slot.key key slot.space.entries (spaces_in slots) some))
+front_used slots d key mxr address access inside some = ap (λ entries. device_by_entries entries mxr address access) (entries_used slots d key inside some)

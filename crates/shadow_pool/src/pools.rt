@@ -10,7 +10,9 @@ ghost use Rattle.shadow_space.specs.Shadows.{AreZeros};
 ghost use Rattle.shadow_pool.specs.Moves.{pool_in_part};
 ghost use Rattle.shadow_pool.specs.Slots.{AreFolded, AreSpare, HasSpaceFor, IsSpare, KeepsPool, TidyPool, filled_for, front_root, pool_frames, room_of, space_at, spaces_of};
 
-use crate::slots::{Slot, enter, entries_at, fence, fill, is_on_device, key_at, move_to, used};
+use crate::slots::{
+    Slot, enter, entries_at, fence, fill, front_entries, is_on_device, key_at, move_to, used,
+};
 use arch_defs::{Access, Entry, Fence, Key, Part};
 use no_memory::NoMemory;
 use phys_mem::PhysMem;
@@ -85,6 +87,13 @@ impl Pool {
     {
         let front = &self.slots[0];
         front.space.root()
+    }
+
+    /// The entries of the front space, the oldest first.
+    pub fn front_entries(&self) -> &[Entry]
+        ensures { result.now ≡ front (spaces_of self.now) }
+    {
+        front_entries(self.slots.as_slice())
     }
 
     /// Whether the entry of the front space for an address's page permits an access of this kind, and is of

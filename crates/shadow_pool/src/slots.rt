@@ -120,6 +120,20 @@ pub fn entries_at(slots: &[Slot], i: usize) -> &[Entry]
     slot.space.entries()
 }
 
+/// The entries of the front space, the oldest first.
+#[tactic(auto, using(crate::proofs::Listing::entries_spare, crate::proofs::Listing::entries_used))]
+pub fn front_entries(slots: &[Slot]) -> &[Entry]
+    requires some { 1 ≤ length slots.now }
+    requires order { AllPairs ComesBefore slots.now }
+    ensures { result.now ≡ front (spaces_in slots.now) }
+{
+    let front = &slots[0];
+    match front.key {
+        None => &[],
+        Some(_) => front.space.entries(),
+    }
+}
+
 /// Whether an access of a kind is on the device page by the front space.
 #[tactic(auto, using(crate::proofs::Listing::front_spare, crate::proofs::Listing::front_used))]
 pub fn is_on_device(slots: &[Slot], mxr: bool, address: u64, kind: Access) -> bool

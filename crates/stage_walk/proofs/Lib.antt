@@ -5,5 +5,6 @@ pub mod Fitting
 pub mod Flag
 pub mod Leaves
 pub mod Levels
+pub mod MetPlaces
 pub mod NotedWalks
 mod Pointers

@@ -4,6 +4,7 @@
 mod entries;
 mod fetching;
 mod laws;
+mod meeting;
 mod noting;
 mod permissions;
 mod places;
@@ -16,6 +17,7 @@ pub use laws::{
     entries_are_valid, entries_met_are_linked, leaf_has_the_standard_address,
     walks_depend_on_entries_met, walks_end_by_levels, words_read_back, words_say,
 };
+pub use meeting::places_met;
 pub use noting::{NotingFetch, walk_noted};
 pub use permissions::{permits_first, permits_second};
 pub use walking::walk;

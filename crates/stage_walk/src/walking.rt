@@ -10,10 +10,17 @@ use crate::fetching::Fetch;
 use crate::places::{is_canonical, levels, place_of, unread_end};
 use arch_defs::{Access, Shape, WalkEnd};
 
-// What the walk finds for an address in the table of a frame.
+/// What the walk finds for an address in the table of a frame.
 #[inline(always)]
 #[tactic(auto, using(arch_defs::proofs::Shapes::few_levels))]
-fn visit<F: Fetch>(fetch: &F, shape: Shape, va: u64, access: Access, level: u8, table: u64) -> Visit
+pub(crate) fn visit<F: Fetch>(
+    fetch: &F,
+    shape: Shape,
+    va: u64,
+    access: Access,
+    level: u8,
+    table: u64,
+) -> Visit
     requires level { level < levels shape }
     requires table { table < 2 ^ 44 }
     requires backed { F.is_backed fetch.now }

@@ -18,6 +18,6 @@ pub use phys_mem::Mem;
 pub use translating::{Place, locate, translate, translate_found};
 pub use traps::{guest_page_trap, missing_place_trap};
 pub use virtual_addresses::{
-    first_leaf, first_stage, found_by, leaf_address, privilege_of, supervisor_of,
+    first_leaf, first_stage, found_by, leaf_address, privilege_of, supervisor_of, unread, word_at,
 };
 pub use walked_entries::entry_by_walk;
