@@ -1,8 +1,7 @@
--- Slots without those that have the bit of a frame, and without those of two pages.
-use Rattle.std.proofs.Common.{◌≡◌, ◌≢◌, ℕ, ◌*◌, ◌/◌, ◌%◌, ◌^◌, ◌<◌, ◌∙◌, ◌==◌, Bool, true, false, List, Option, length, get_or, set, refl, ap, sym, subst, arith, ◌+◌, ◌⊎◌, inl, inr}
-use Rattle.std.specs.Prelude.{◌||◌}
+-- Slots without those that have the bit of a frame.
+use Rattle.std.proofs.Common.{◌≡◌, ◌≢◌, ℕ, ◌%◌, ◌<◌, ◌∙◌, true, false, List, length, get_or, set, refl, ap, sym, subst, arith, ◌+◌, ◌⊎◌, inl, inr}
 use Rattle.std.specs.List.{All}
-use Rattle.std.proofs.lemmas.Bool.{and_from, and_parts, both_ways, cases_eq, eq-eqb}
+use Rattle.std.proofs.lemmas.Bool.{and_from, and_parts, both_ways, cases_eq}
 use Rattle.std.proofs.lemmas.List.{get_or-set_same, get_or-set_other, get_or_default}
 use Rattle.std.proofs.lemmas.Nat.Bits.{bit_at-zero}
 use Rattle.arch_defs.specs.Bits.{bit}
@@ -12,11 +11,11 @@ use Rattle.frame_set.specs.Holding.{has_among, has_frame}
 use Rattle.translation_buffer.specs.Places.{Translator}
 use Rattle.translation_buffer.specs.declared.slots.Slot.{Slot}
 use Rattle.translation_buffer.specs.declared.slots.Slots.{Slots}
-use Rattle.translation_buffer.specs.Serving.{AllLackBit, AllLackPages, AllStand, LacksBit, LacksPages, SlotStands, is_page}
-use Rattle.translation_buffer.specs.Tags.{AllUpTo, AreLeft, IsUpTo, bit_of, slots_of}
+use Rattle.translation_buffer.specs.Serving.{AllLackBit, AllStand, LacksBit, SlotStands}
+use Rattle.translation_buffer.specs.Tags.{AllUpTo, AreLeft, IsUpTo, slots_of}
 use Rattle.translation_buffer.proofs.KeptSlots.{none_stands, stands_more}
 use Rattle.translation_buffer.proofs.SlotKinds.{each_kind, kinds_left}
-use Rattle.translation_buffer.proofs.PageTags.{none_of_tag, none_up_to}
+use Rattle.translation_buffer.proofs.PageTags.{none_up_to}
 
 -- a slot in the place of another
 pub none_lacks : (frame : ℕ) (slot : Slot) → slot.bits ≡ 0 → LacksBit frame slot
@@ -43,32 +42,6 @@ lacks_kept slots at frame slot other inside lacks = subst (LacksBit frame) (get_
 
 pub ruleset dropping = (drop_left, none_dropped, drop_lacks, drop_others)
 
--- slots of no address of two pages
-pub none_of_pages : (page : ℕ) (other : Option ℕ) (slot : Slot) → slot.tag ≡ 0 → LacksPages page other slot
-none_of_pages page other slot none = record { apart = λ run who va small tag. absurd (none_of_tag run who va slot none tag) }
-
-pub pages_dropped : (slots : List Slot) (at page : ℕ) (other : Option ℕ) (none : Slot) → at < length slots → none.tag ≡ 0 → (d : Slot) → LacksPages page other (get_or (set slots at none) at d)
-pages_dropped slots at page other none inside is d = rw (get_or-set_same slots at none d inside) (none_of_pages page other none is)
-
-own_page : (run n va : ℕ) → va < 2 ^ 64 → (36028797018963968 * (run + 1) + 4503599627370496 * n + va / 4096) % 4503599627370496 ≡ va / 4096
-own_page run n va small = omega (arith, small)
-
-or_parts : (a b : Bool) → (a || b) ≡ false → (a ≡ false) × (b ≡ false)
-or_parts true b is = absurd cc
-or_parts false b is = (refl, is)
-
-pub off_pages : (page : ℕ) (other : Option ℕ) (slot : Slot) → (slot.tag % 2 ^ 52 == page || is_page other (slot.tag % 2 ^ 52)) ≡ false → LacksPages page other slot
-off_pages page other slot off = record {
-  apart = λ run who va small tag.
-      let own : slot.tag % 2 ^ 52 ≡ va / 4096 = ap (λ n. n % 2 ^ 52) tag ∙ own_page run (bit_of who.user + 2 * bit_of who.sum + 4 * bit_of who.mxr) va small in
-      let parts = or_parts (slot.tag % 2 ^ 52 == page) (is_page other (slot.tag % 2 ^ 52)) off in
-      ((λ same. both_ways (slot.tag % 2 ^ 52 == page) parts.0 (eq-eqb (slot.tag % 2 ^ 52) page (own ∙ same))), ap (is_page other) (sym own) ∙ parts.1);
-}
-
-pub pages_kept : (slots : List Slot) (at page : ℕ) (other : Option ℕ) (slot d : Slot) → at < length slots
-    → ((get_or slots at slot).tag % 2 ^ 52 == page || is_page other ((get_or slots at slot).tag % 2 ^ 52)) ≡ false → LacksPages page other (get_or slots at d)
-pages_kept slots at page other slot d inside off = subst (LacksPages page other) (get_or_default slots at slot d inside) (off_pages page other (get_or slots at slot) off)
-
 -- one after another
 pub left_more : (old slots new : List Slot) → AreLeft old slots → AreLeft slots new → AreLeft old new
 left_more old slots new before left k d = by (left k d)
@@ -93,10 +66,6 @@ each_more P old new at here others before k other below = by (cases_eq k at)
 -- those of all kinds
 pub all_kinds : (frame : ℕ) (slots : Slots) → All (LacksBit frame) slots.fetches → All (LacksBit frame) slots.loads → All (LacksBit frame) slots.stores → AllLackBit frame slots
 all_kinds frame slots fetches loads stores = each_kind (λ kind. LacksBit frame) slots fetches loads stores
-
-pub all_kinds_of_pages : (page : ℕ) (other : Option ℕ) (slots : Slots) → All (LacksPages page other) slots.fetches → All (LacksPages page other) slots.loads → All (LacksPages page other) slots.stores
-    → AllLackPages page other slots
-all_kinds_of_pages page other slots fetches loads stores = each_kind (λ kind. LacksPages page other) slots fetches loads stores
 
 pub left_stand : (old new : Slots)
     → length new.fetches ≡ length old.fetches → AreLeft old.fetches new.fetches → length new.loads ≡ length old.loads → AreLeft old.loads new.loads → length new.stores ≡ length old.stores → AreLeft old.stores new.stores

@@ -22,6 +22,7 @@ use Rattle.translation_buffer.specs.declared.slots.Slots.{Slots}
 use Rattle.translation_buffer.specs.Places.{Reads, Translator, context_of, translated_place, translator}
 use Rattle.translation_buffer.specs.Serving.{AllStand, Serves, SlotStands, GivesPlaces}
 use Rattle.translation_buffer.specs.Tags.{AllUpTo, run_bits, slots_of, page_tag}
+use Rattle.translation_buffer.proofs.Homes.{page_of_tag}
 use Rattle.translation_buffer.proofs.KeptPlaces.{translations_stay}
 use Rattle.translation_buffer.proofs.SlotKinds.{all_alike, each_kind}
 use Rattle.translation_buffer.proofs.PageTags.{later_tag, none_of_tag, tag_small, tag_tells, tag_up_to}
@@ -48,13 +49,14 @@ next_stands read memory under run slots all kind k d inside = record {
 
 -- a walk's
 pub walk_stands : (frames : Frames) (memory : List ℕ) (under : Translator) (run : ℕ) (who : Privilege) (va place : ℕ) (kind : Access) (slot : Slot) → length memory % 4096 ≡ 0 → va < 2 ^ 64
-    → Reads frames under who memory va kind → translated_place under who memory va kind ≡ Some place → slot.tag ≡ page_tag run who va → slot.frame ≡ place / 4096
+    → Reads frames under who memory va kind → translated_place under who memory va kind ≡ Some place → slot.tag ≡ page_tag run who va
+    → ((near : ℕ) → near < 2 ^ 64 → near / 4096 ≡ va / 4096 → (near + slot.delta) % 2 ^ 64 ≡ 4096 * (place / 4096) + near % 4096)
     → GivesPlaces frames memory under run kind slot
-walk_stands frames memory under run who va place kind slot whole small reads is tag frame = record {
+walk_stands frames memory under run who va place kind slot whole small reads is tag places = record {
   place = λ other whom near same near_small tagged.
       let one = tag_tells run who whom va near small near_small (sym tag ∙ tagged) in
-      rw frame (subst (λ (w : Privilege). translated_place under w other near kind ≡ Some (4096 * (place / 4096) + near % 4096)) one.0
-      (translations_stay frames under who memory other va near place kind whole reads is same (sym one.1)));
+      subst (λ (w : Privilege). translated_place under w other near kind ≡ Some ((near + slot.delta) % 2 ^ 64)) one.0
+      (translations_stay frames under who memory other va near place kind whole reads is same (sym one.1) ∙ ap Some (sym (places near near_small (sym one.1))));
 }
 
 -- by more frames, and in another memory
@@ -105,11 +107,16 @@ pub kept_up_to : (buffer : Buffer) (first : List FirstEntry) (owner : Tag) (csrs
 kept_up_to buffer first owner csrs mode memory va serves small =
     subst (λ n. n < run_bits (buffer.run + 1)) (sym (kept_tag buffer first owner csrs mode memory va serves small)) (tag_up_to buffer.run (privilege_of csrs mode) va small)
 
+pub kept_page : (buffer : Buffer) (first : List FirstEntry) (owner : Tag) (csrs : Csrs) (mode : Mode) (memory : List ℕ) (va : ℕ) → Serves buffer first owner csrs mode memory → va < 2 ^ 64
+    → (buffer.who + va / 4096) % 2 ^ 64 % 2 ^ 52 ≡ va / 4096
+kept_page buffer first owner csrs mode memory va serves small =
+    page_of_tag buffer.run (privilege_of csrs mode) va _ small (kept_tag buffer first owner csrs mode memory va serves small)
+
 pub served : (buffer : Buffer) (first : List FirstEntry) (owner : Tag) (csrs : Csrs) (mode : Mode) (memory : List ℕ) (va : ℕ) (access : Access) (slot : Slot) → Serves buffer first owner csrs mode memory
     → SlotStands buffer.read memory (translator first owner buffer.context) buffer.run access slot → va < 2 ^ 64 → slot.tag ≡ (buffer.who + va / 4096) % 2 ^ 64
-    → translated_place (translator first owner (context_of csrs mode)) (privilege_of csrs mode) memory va access ≡ Some (4096 * slot.frame + va % 4096)
+    → translated_place (translator first owner (context_of csrs mode)) (privilege_of csrs mode) memory va access ≡ Some ((va + slot.delta) % 2 ^ 64)
 served buffer first owner csrs mode memory va access slot serves stands small tag =
-    subst (λ (c : Context). translated_place (translator first owner c) (privilege_of csrs mode) memory va access ≡ Some (4096 * slot.frame + va % 4096)) serves.context
+    subst (λ (c : Context). translated_place (translator first owner c) (privilege_of csrs mode) memory va access ≡ Some ((va + slot.delta) % 2 ^ 64)) serves.context
     (stands.place memory (privilege_of csrs mode) va (same_none (has_among buffer.read slot.bits) memory) small
     (tag ∙ kept_tag buffer first owner csrs mode memory va serves small))
 

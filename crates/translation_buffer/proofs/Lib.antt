@@ -1,6 +1,8 @@
 pub mod DroppedSlots
+pub mod FencedPages
 pub mod FilledPages
 pub mod Hits
+pub mod Homes
 pub mod KeptPages
 pub mod KeptPlaces
 pub mod KeptSlots

@@ -1,6 +1,6 @@
 -- The place of an access for which no table of the first stage is walked, as a function of memory, of the
 -- first-stage translations that are cached, of the roots and of whom the access is made for.
-use Rattle.std.specs.Prelude.{ℕ, ◌≡◌, List, Option, Some, None}
+use Rattle.std.specs.Prelude.{ℕ, ◌≡◌, ◌==◌, ◌||◌, not, Bool, List, Option, Some, None}
 use Rattle.arch_defs.specs.declared.first.FirstEntry.{FirstEntry}
 use Rattle.arch_defs.specs.declared.first.Tag.{Tag}
 use Rattle.arch_defs.specs.declared.hart_states.HartState.{HartState}
@@ -71,3 +71,7 @@ place_on_hart s memory va access =
 abbrev pub Reads : Frames → Translator → Privilege → List ℕ → ℕ → Access → Type 0
 Reads frames under who memory va access = (address : ℕ) → passed_under under who va access ≡ Some address
     → SecondReads frames (machine_memory memory) address access under.context.second
+
+-- whether a cached translation is of a page, or not named
+abbrev pub spares : (FirstEntry → Bool) → ℕ → FirstEntry → Bool
+spares named page e = e.page == page || not (named e)

@@ -1,5 +1,5 @@
 -- What kept translations say of memory, and when a buffer serves the accesses of a mode (own).
-use Rattle.std.specs.Prelude.{ℕ, ◌≡◌, ◌+◌, ◌*◌, ◌/◌, ◌%◌, ◌^◌, ◌<◌, ◌≢◌, ◌==◌, Bool, false, List, Option, Some, None}
+use Rattle.std.specs.Prelude.{ℕ, ◌≡◌, ◌+◌, ◌/◌, ◌%◌, ◌^◌, ◌<◌, ◌≢◌, false, List, Option, Some, IfSome}
 use Rattle.std.specs.List.{All}
 use Rattle.arch_defs.specs.declared.first.FirstEntry.{FirstEntry}
 use Rattle.arch_defs.specs.declared.first.Tag.{Tag}
@@ -27,7 +27,7 @@ pub record GivesPlaces (frames : Frames) (memory : List ℕ) (under : Translator
     (slot : Slot) : Type 0 where
   pub place : (other : List ℕ) (who : Privilege) (va : ℕ) → Same frames memory other → va < 2 ^ 64
       → slot.tag ≡ page_tag run who va
-      → translated_place under who other va kind ≡ Some (4096 * slot.frame + va % 4096)
+      → translated_place under who other va kind ≡ Some ((va + slot.delta) % 2 ^ 64)
 
 -- a slot stands by the frames of a set whose bits it has
 abbrev pub SlotStands : FrameSet → List ℕ → Translator → ℕ → Access → Slot → Type 0
@@ -45,6 +45,13 @@ pub record PageStands (frames : Frames) (memory : List ℕ) (under : Translator)
       → start_of va ≡ page.start
       → translated_place under who other va Fetch ≡ Some ((va + page.delta) % 2 ^ 64)
 
+-- no address of the page of the last fetch is of a page, nor of another, if there is another
+abbrev pub IsOffPage : ℕ → Page → Type 0
+IsOffPage page last = (va : ℕ) → start_of va ≡ last.start → va / 4096 ≢ page
+
+abbrev pub IsOffPages : ℕ → Option ℕ → Page → Type 0
+IsOffPages page other last = IsOffPage page last × IfSome other (λ p. IsOffPage p last)
+
 -- a slot lacks the bit of a frame
 abbrev pub LacksBit : ℕ → Slot → Type 0
 LacksBit frame slot = bit (frame % 64) slot.bits ≡ false
@@ -52,17 +59,17 @@ LacksBit frame slot = bit (frame % 64) slot.bits ≡ false
 abbrev pub AllLackBit : ℕ → Slots → Type 0
 AllLackBit frame slots = (kind : Access) → All (LacksBit frame) (slots_of slots kind)
 
--- a slot is of no address of one page, nor of one of another, if there is another
-abbrev pub is_page : Option ℕ → ℕ → Bool
-is_page None own = false
-is_page (Some page) own = own == page
-
-pub record LacksPages (page : ℕ) (other : Option ℕ) (slot : Slot) : Type 0 where
+-- a slot is of no address of a page
+pub record LacksPage (page : ℕ) (slot : Slot) : Type 0 where
   pub apart : (run : ℕ) (who : Privilege) (va : ℕ) → va < 2 ^ 64 → slot.tag ≡ page_tag run who va
-      → (va / 4096 ≢ page) × (is_page other (va / 4096) ≡ false)
+      → va / 4096 ≢ page
 
+abbrev pub AllLackPage : ℕ → Slots → Type 0
+AllLackPage page slots = (kind : Access) → All (LacksPage page) (slots_of slots kind)
+
+-- nor of one of another page, if there is another
 abbrev pub AllLackPages : ℕ → Option ℕ → Slots → Type 0
-AllLackPages page other slots = (kind : Access) → All (LacksPages page other) (slots_of slots kind)
+AllLackPages page other slots = AllLackPage page slots × IfSome other (λ p. AllLackPage p slots)
 
 -- a buffer serves the accesses of a mode, by the first-stage translations that are cached and for whom they
 -- are: it is for the mode's roots and for whom it accesses, all slots of its run stand by those of the frames

@@ -1,5 +1,5 @@
 -- Tags: of which page a kept translation is, for whom, and of which run of the hart (own).
-use Rattle.std.specs.Prelude.{ℕ, ◌≡◌, ◌+◌, ◌*◌, ◌/◌, ◌%◌, ◌^◌, ◌<◌, ◌⊎◌, Bool, true, false, List, [], get_or}
+use Rattle.std.specs.Prelude.{ℕ, ◌≡◌, ◌≢◌, ◌+◌, ◌*◌, ◌/◌, ◌%◌, ◌^◌, ◌<◌, ◌⊎◌, Bool, true, false, List, [], get_or, length}
 use Rattle.std.specs.List.{All}
 use Rattle.arch_defs.specs.declared.modes.Access.{Access}
 use Rattle.arch_defs.specs.declared.modes.Access.TheVariants.{Fetch, Load, Store, ExecLoad, Implicit}
@@ -46,3 +46,13 @@ AllUpTo run slots = (kind : Access) → All (IsUpTo run) (slots_of slots kind)
 abbrev pub AreLeft : List Slot → List Slot → Type 0
 AreLeft old new = (at : ℕ) (d : Slot)
     → (get_or new at d ≡ get_or old at d) ⊎ ((get_or new at d).tag ≡ 0)
+
+-- a slot is of no page, or stands at the low bits of its page's number, among so many
+abbrev pub IsAtHome : ℕ → ℕ → Slot → Type 0
+IsAtHome size at slot = slot.tag ≢ 0 → slot.tag % 2 ^ 52 % size ≡ at
+
+abbrev pub AreAtHome : List Slot → Type 0
+AreAtHome slots = (at : ℕ) (d : Slot) → at < length slots → IsAtHome (length slots) at (get_or slots at d)
+
+abbrev pub AllAtHome : Slots → Type 0
+AllAtHome slots = (kind : Access) → AreAtHome (slots_of slots kind)

@@ -1,30 +1,31 @@
 // The buffer: found, walked and kept, and dropped where a table or a cached first-stage translation changes.
 
-ghost use Rattle.std.specs.Prelude.{◌≡◌, ℕ, ◌+◌, ◌*◌, ◌/◌, ◌%◌, ◌-◌, ◌^◌, ◌<◌, ◌≤◌, ◌⊎◌, false, find, option_map, IfSome, List, Some, length};
+ghost use Rattle.std.specs.Prelude.{◌≡◌, ℕ, ◌+◌, ◌*◌, ◌/◌, ◌%◌, ◌-◌, ◌^◌, ◌<◌, ◌≤◌, ◌⊎◌, Bool, true, false, find, option_map, IfSome, List, Some};
+ghost use Rattle.std.specs.List.{list_all};
 ghost use Rattle.arch_defs.specs.declared.first.FirstEntry.{FirstEntry};
 ghost use Rattle.arch_defs.specs.declared.first.Tag.{Tag};
 ghost use Rattle.arch_defs.specs.declared.modes.Access.{Access};
 ghost use Rattle.arch_defs.specs.declared.modes.Mode.{Mode};
 ghost use Rattle.arch_defs.specs.declared.registers.Csrs.{Csrs};
-ghost use Rattle.arch_defs.specs.FirstEntries.{HasGuestFrame, first_filled, is_first_of, known_by};
+ghost use Rattle.arch_defs.specs.FirstEntries.{HasGuestFrame, first_filled, is_first_of, known_by, names_first, unnamed_first};
 ghost use Rattle.arch_defs.specs.Frames.{Frames, Within};
 ghost use Rattle.arch_defs.specs.Memory.{machine_memory};
 ghost use Rattle.arch_defs.specs.Translation.{privilege_of};
 ghost use Rattle.frame_set.specs.declared.sets.FrameSet.{FrameSet};
 ghost use Rattle.frame_set.specs.Holding.{has_frame, has_recent};
 ghost use Rattle.two_stage_walk.specs.Places.{IsPlaceOf};
-ghost use Rattle.translation_buffer.specs.Places.{Reads, Translator, context_of, passed_by, place_on_hart, translated_place, translator};
-ghost use Rattle.translation_buffer.specs.Tags.{AllUpTo, bit_of, run_bits, who_bits};
+ghost use Rattle.translation_buffer.specs.Places.{Reads, Translator, context_of, passed_by, place_on_hart, spares, translated_place, translator};
+ghost use Rattle.translation_buffer.specs.Tags.{AllAtHome, AllUpTo, bit_of, run_bits, who_bits};
 ghost use Rattle.translation_buffer.specs.WalkCounts.{one_more_walk};
 
 use crate::contexts::Context;
-use crate::pages::Page;
+use crate::pages::{Page, delta};
 use crate::slots::{Slot, Slots};
 use arch_defs::{
-    Access, Csrs, FirstBuffer, FirstEntry, HartState, Mode, Privilege, SupervisorRoot, Tag,
+    Access, Csrs, Fence, FirstBuffer, FirstEntry, HartState, Mode, Privilege, SupervisorRoot, Tag,
 };
 use frame_set::FrameSet;
-use phys_mem::{Mem, PhysMem};
+use phys_mem::PhysMem;
 use stage_walk::permits_first;
 use two_stage_walk::{leaf_address, privilege_of, second_noted};
 
@@ -46,6 +47,7 @@ pub struct Buffer {
     walks: u64,
     ghost few: { run ≤ 510 },
     ghost tags: { AllUpTo run slots },
+    ghost homes: { AllAtHome slots },
 }
 
 // A bit as a number.
@@ -173,6 +175,40 @@ fn bits_of(run: u64, csrs: &Csrs, mode: Mode) -> u64
     run_bits(run) + who_bits(privilege_of(csrs, mode))
 }
 
+// Whether a cached translation is of a page, or not named by a fence of the first stage, made for these
+// accesses.
+fn spares(entry: &FirstEntry, tag: Tag, fence: &Fence, page: u64) -> bool
+    ensures { result ≡ spares (names_first tag fence.now) page entry.now }
+{
+    entry.page == page || !entry.is_named(tag, fence)
+}
+
+// Whether it names translations of a page alone.
+fn names_alone(first: &FirstBuffer, tag: Tag, fence: &Fence, page: u64) -> bool
+    ensures { result ≡ list_all (spares (names_first tag fence.now) page) first.now }
+{
+    let entries = first.as_slice();
+    entries.iter().all(|entry| spares(entry, tag, fence, page))
+}
+
+// The page of a fence of the first stage, made for these accesses, where it names cached translations of this
+// page alone. One of a leaf of many pages names those of all that are cached.
+fn page_alone(first: &FirstBuffer, tag: Tag, fence: &Fence) -> Option<u64>
+    ensures { IfSome result
+        (λ page. list_all (spares (names_first tag fence.now) page) first.now ≡ true) }
+{
+    match fence.page {
+        Some(page) => {
+            if names_alone(first, tag, fence, page) {
+                Some(page)
+            } else {
+                None
+            }
+        }
+        None => None,
+    }
+}
+
 impl Buffer {
     ghost use Rattle.translation_buffer.specs.Serving.{AllStand, Serves, ServesHart};
 
@@ -297,7 +333,54 @@ impl Buffer {
     {
         let dropped = first.fill(entry);
         self.slots.drop_pages(entry.page, dropped);
-        self.page.forget();
+        self.page.forget_pages(entry.page, dropped);
+    }
+
+    // Drops the translations of a page.
+    fn drop_page(&mut self, page: u64)
+        ensures serves { (first : List FirstEntry) (owner : Tag) (csrs : Csrs) (mode : Mode)
+            (memory : List ℕ) (named : FirstEntry → Bool) → list_all (spares named page) first ≡ true
+            → Serves self.old first owner csrs mode memory
+            → Serves self.new (unnamed_first named first) owner csrs mode memory }
+        ensures walks { self.new.walks ≡ self.old.walks }
+    {
+        self.slots.drop_page(page);
+        self.page.forget_page(page);
+    }
+
+    // Drops what is kept by the translations that a fence names, made for these accesses: that of their page,
+    // where they are of one alone, and else all.
+    fn drop_fenced(&mut self, first: &FirstBuffer, tag: Tag, fence: &Fence, csrs: &Csrs, mode: Mode)
+        ensures serves { (owner : Tag) (memory : List ℕ)
+            → Serves self.old first.now owner csrs.now mode memory
+            → Serves self.new (unnamed_first (names_first tag fence.now) first.now) owner csrs.now mode
+            memory }
+        ensures walks { self.new.walks ≡ self.old.walks }
+    {
+        match page_alone(first, tag, fence) {
+            Some(page) => self.drop_page(page),
+            None => self.restart(csrs, mode),
+        }
+    }
+
+    /// Drops the cached first-stage translations that a fence names, made for these accesses, and what was
+    /// kept by them, for a mode as the registers are.
+    pub fn fence(
+        &mut self,
+        first: &mut FirstBuffer,
+        tag: Tag,
+        fence: &Fence,
+        csrs: &Csrs,
+        mode: Mode,
+    )
+        ensures left { first.new ≡ unnamed_first (names_first tag fence.now) first.old }
+        ensures serves { (owner : Tag) (memory : List ℕ)
+            → Serves self.old first.old owner csrs.now mode memory
+            → Serves self.new first.new owner csrs.now mode memory }
+        ensures walks { self.new.walks ≡ self.old.walks }
+    {
+        self.drop_fenced(first, tag, fence, csrs, mode);
+        first.drop_named(tag, fence);
     }
 
     /// The place of an access by what is kept, if it is.
@@ -366,7 +449,7 @@ impl Buffer {
     {
         let slot = self.slots.slot(va, Access::Fetch);
         if slot.tag == self.who.wrapping_add(va / 4096) {
-            self.page = Page::of(va, slot.place(va));
+            self.page = Page::of(va, slot.delta);
         }
     }
 
@@ -383,10 +466,10 @@ impl Buffer {
         self.read.begin();
         match place_noted(memory, &self.context, state, va, access, &mut self.read) {
             Some(place) => {
-                let _ = memory.size();
+                memory.is_whole();
                 let slot = Slot {
                     tag: self.who.wrapping_add(va / 4096),
-                    frame: (place / 4096) as u32,
+                    delta: delta(va, place),
                     bits: self.read.recent(),
                 };
                 self.slots.keep(va, access, slot);

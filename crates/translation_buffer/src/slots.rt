@@ -1,23 +1,23 @@
 // Kept translations, by the kind of access.
 
-ghost use Rattle.std.specs.Prelude.{◌≡◌, ◌≢◌, ℕ, ◌+◌, ◌*◌, ◌%◌, ◌<◌, ◌^◌, ◌==◌, ◌||◌, List, length, get_or};
+ghost use Rattle.std.specs.Prelude.{◌≡◌, ◌≢◌, ℕ, ◌+◌, ◌%◌, ◌/◌, ◌<◌, ◌^◌, ◌==◌, List, length, get_or};
 ghost use Rattle.std.specs.List.{All};
 ghost use Rattle.arch_defs.specs.declared.modes.Access.{Access};
 ghost use Rattle.arch_defs.specs.Bits.{bit};
 ghost use Rattle.frame_set.specs.declared.sets.FrameSet.{FrameSet};
 ghost use Rattle.translation_buffer.specs.Places.{Translator};
-ghost use Rattle.translation_buffer.specs.Serving.{AllLackBit, AllLackPages, AllStand, LacksBit, LacksPages, SlotStands, is_page};
-ghost use Rattle.translation_buffer.specs.Tags.{AllUpTo, AreLeft, IsUpTo};
+ghost use Rattle.translation_buffer.specs.Serving.{AllLackBit, AllLackPage, AllLackPages, AllStand, LacksBit, LacksPage, SlotStands};
+ghost use Rattle.translation_buffer.specs.Tags.{AllAtHome, AllUpTo, AreAtHome, AreLeft, IsUpTo};
 
 use arch_defs::Access;
 
-/// A kept translation: the tag of a page, the frame of its places, and the bits of the frames that were read
-/// for it; a frame's bit is that of its number modulo 64. Where none is kept, the tag is 0, which no page
-/// has.
+/// A kept translation: the tag of a page, what is added to an address of it, modulo 2^64, to get its place,
+/// and the bits of the frames that were read for it. A frame's bit is that of its number modulo 64. Where
+/// none is kept, the tag is 0, which no page has.
 #[derive(Clone, Copy, PartialEq, Eq)]
 pub struct Slot {
     pub tag: u64,
-    pub frame: u32,
+    pub delta: u64,
     pub bits: u64,
 }
 
@@ -30,7 +30,7 @@ impl Slot {
     {
         Slot {
             tag: 0,
-            frame: 0,
+            delta: 0,
             bits: 0,
         }
     }
@@ -43,32 +43,20 @@ impl Slot {
         (self.bits >> (frame % 64)) & 1 == 1
     }
 
-    // Whether it is of one page, or of another, if there is another.
+    // Whether it is of a page.
     #[inline]
-    fn is_of(self, page: u64, other: Option<u64>) -> bool
-        ensures { result ≡ (self.tag % 2 ^ 52 == page || is_page other (self.tag % 2 ^ 52)) }
+    fn is_of(self, page: u64) -> bool
+        ensures { result ≡ (self.tag % 2 ^ 52 == page) }
     {
-        let own = self.tag % 0x10_0000_0000_0000;
-        own == page || is_page(other, own)
+        self.tag % 0x10_0000_0000_0000 == page
     }
 
     /// The place of an address of the page.
     #[inline]
     pub fn place(self, va: u64) -> u64
-        ensures { result ≡ 4096 * self.frame + va % 4096 }
+        ensures { result ≡ (va + self.delta) % 2 ^ 64 }
     {
-        4096 * self.frame as u64 + va % 4096
-    }
-}
-
-// Whether a page is this one, if there is one.
-#[inline]
-fn is_page(page: Option<u64>, own: u64) -> bool
-    ensures { result ≡ is_page page own }
-{
-    match page {
-        Some(page) => own == page,
-        None => false,
+        va.wrapping_add(self.delta)
     }
 }
 
@@ -83,11 +71,12 @@ pub struct Slots {
 
 // No translation at each place.
 #[inline]
-#[tactic(auto, using(crate::proofs::KeptSlots::all_none, crate::proofs::SlotKinds::alike_up_to))]
+#[tactic(auto, using(crate::proofs::KeptSlots::all_none, crate::proofs::SlotKinds::alike_up_to, crate::proofs::Homes::alike_at_home))]
 fn no_slots<const N: usize>() -> [Slot; N]
     ensures stand { (read : FrameSet) (memory : List ℕ) (under : Translator) (run : ℕ) (kind : Access)
         → All (SlotStands read memory under run kind) result }
     ensures tags { (run : ℕ) → All (IsUpTo run) result }
+    ensures homes { AreAtHome result }
 {
     [Slot::none(); N]
 }
@@ -120,31 +109,28 @@ fn drop_each(slots: &mut [Slot], frame: u64)
     }
 }
 
-// Drops a translation that is of one page, or of another, if there is another.
+// Where a page's translation stands among so many: at the low bits of the page's number.
 #[inline]
-#[tactic(auto, using(crate::proofs::DroppedSlots::dropping))]
-fn drop_of_pages(slots: &mut [Slot], at: usize, page: u64, other: Option<u64>)
-    requires inside { at < length slots.old }
-    ensures left { AreLeft slots.old slots.new }
-    ensures lacks { (d : Slot) → LacksPages page other (get_or slots.new at d) }
-    ensures others { (place : ℕ) (d : Slot) → place ≢ at
-        → get_or slots.new place d ≡ get_or slots.old place d }
-    ensures size { length slots.new ≡ length slots.old }
+fn home(page: u64, size: usize) -> usize
+    requires some { 0 < size }
+    ensures value { result ≡ page % size }
+    ensures inside { result < size }
 {
-    if slots[at].is_of(page, other) {
-        slots[at] = Slot::none();
-    }
+    (page % size as u64) as usize
 }
 
-// Drops the translations that are of one page, or of another, if there is another.
+// Drops the translation of a page, if there is one.
 #[inline]
-fn drop_each_of_pages(slots: &mut [Slot], page: u64, other: Option<u64>)
+#[tactic(auto, using(crate::proofs::DroppedSlots::dropping))]
+fn drop_at_home(slots: &mut [Slot], page: u64)
+    requires some { 0 < length slots.old }
     ensures left { AreLeft slots.old slots.new }
-    ensures lack { All (LacksPages page other) slots.new }
+    ensures lack { AreAtHome slots.old → All (LacksPage page) slots.new }
     ensures size { length slots.new ≡ length slots.old }
 {
-    for at in 0..slots.len() {
-        drop_of_pages(slots, at, page, other);
+    let at = home(page, slots.len());
+    if slots[at].is_of(page) {
+        slots[at] = Slot::none();
     }
 }
 
@@ -156,6 +142,7 @@ impl Slots {
         ensures stand { (read : FrameSet) (memory : List ℕ) (under : Translator) (run : ℕ)
             → AllStand read memory under run result }
         ensures tags { (run : ℕ) → AllUpTo run result }
+        ensures homes { AllAtHome result }
     {
         Slots {
             fetches: no_slots(),
@@ -170,6 +157,7 @@ impl Slots {
         ensures stand { (read : FrameSet) (memory : List ℕ) (under : Translator) (run : ℕ)
             → AllStand read memory under run self.old → AllStand read memory under run self.new }
         ensures tags { (run : ℕ) → AllUpTo run self.old → AllUpTo run self.new }
+        ensures homes { AllAtHome self.old → AllAtHome self.new }
         ensures lack { AllLackBit frame self.new }
     {
         drop_each(&mut self.fetches, frame);
@@ -177,17 +165,34 @@ impl Slots {
         drop_each(&mut self.stores, frame);
     }
 
+    /// Drops the translations of a page. Each stands at the low bits of the page's number.
+    #[inline]
+    pub fn drop_page(&mut self, page: u64)
+        ensures stand { (read : FrameSet) (memory : List ℕ) (under : Translator) (run : ℕ)
+            → AllStand read memory under run self.old → AllStand read memory under run self.new }
+        ensures tags { (run : ℕ) → AllUpTo run self.old → AllUpTo run self.new }
+        ensures homes { AllAtHome self.old → AllAtHome self.new }
+        ensures lack { AllAtHome self.old → AllLackPage page self.new }
+        ensures others { (other : ℕ) → AllLackPage other self.old → AllLackPage other self.new }
+    {
+        drop_at_home(&mut self.fetches, page);
+        drop_at_home(&mut self.loads, page);
+        drop_at_home(&mut self.stores, page);
+    }
+
     /// Drops the translations of one page, and of another, if there is another.
-    #[tactic(auto, using(crate::proofs::DroppedSlots::all_kinds_of_pages))]
     pub fn drop_pages(&mut self, page: u64, other: Option<u64>)
         ensures stand { (read : FrameSet) (memory : List ℕ) (under : Translator) (run : ℕ)
             → AllStand read memory under run self.old → AllStand read memory under run self.new }
         ensures tags { (run : ℕ) → AllUpTo run self.old → AllUpTo run self.new }
-        ensures lack { AllLackPages page other self.new }
+        ensures homes { AllAtHome self.old → AllAtHome self.new }
+        ensures lack { AllAtHome self.old → AllLackPages page other self.new }
     {
-        drop_each_of_pages(&mut self.fetches, page, other);
-        drop_each_of_pages(&mut self.loads, page, other);
-        drop_each_of_pages(&mut self.stores, page, other);
+        self.drop_page(page);
+        match other {
+            Some(other) => self.drop_page(other),
+            None => {}
+        }
     }
 
     /// The slot of an address for a kind of access.
@@ -211,6 +216,7 @@ impl Slots {
             → SlotStands read memory under run access slot → AllStand read memory under run self.old
             → AllStand read memory under run self.new }
         ensures tags { (run : ℕ) → IsUpTo run slot → AllUpTo run self.old → AllUpTo run self.new }
+        ensures homes { slot.tag % 2 ^ 52 ≡ va / 4096 → AllAtHome self.old → AllAtHome self.new }
     {
         let page = va / 4096;
         match access {

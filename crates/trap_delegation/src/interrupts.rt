@@ -10,6 +10,7 @@ use arch_defs::{
 
 /// The code of the interrupt that is due, without scause's bit 63; none exactly where none is due. The
 /// interrupts that go to HS come before those of VS.
+#[inline]
 #[tactic(auto, using(crate::proofs::Due::nothing_pending))]
 pub fn pending(csrs: &Csrs, mode: Mode) -> Option<u64>
     ensures { result ≡ due csrs.now mode }
@@ -21,6 +22,8 @@ pub fn pending(csrs: &Csrs, mode: Mode) -> Option<u64>
 }
 
 // The first that is due of those that are pending.
+#[cold]
+#[inline(never)]
 #[tactic(auto, unfolding(arch_defs::specs::Interrupts::due))]
 fn first_due(csrs: &Csrs, mode: Mode) -> Option<u64>
     ensures { result ≡ due csrs.now mode }

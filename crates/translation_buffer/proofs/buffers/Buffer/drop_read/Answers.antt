@@ -18,4 +18,4 @@ returns-clause-serves c = λ first owner csrs mode memory serves. record {
 }
 
 pub invariant_of-self : goal.invariant_of-self
-invariant_of-self c = record { few = c.args.self.now.few; tags = c.drop_read.ensures.tags c.args.self.now.run c.args.self.now.tags }
+invariant_of-self c = record { few = c.args.self.now.few; tags = c.drop_read.ensures.tags c.args.self.now.run c.args.self.now.tags; homes = c.drop_read.ensures.homes c.args.self.now.homes }

@@ -11,7 +11,7 @@ returns-then-slot-self-clause-serves c =
       context = serves.context;
       who = serves.who;
       slots = serves.slots;
-      page = serves_page c.args.self.now first owner csrs mode memory c.args.va c.place.result c.slot-slot.result c.of-self.result serves
+      page = serves_page c.args.self.now first owner csrs mode memory c.args.va c.slot-slot.result c.of-self.result serves
           (c.slot-slot.ensures c.args.self.now.read memory (translator first owner c.args.self.now.context) c.args.self.now.run serves.slots) small tag
-          c.place.ensures c.of-self.ensures.start c.of-self.ensures.places;
+          c.of-self.ensures.start c.of-self.ensures.delta;
     }

@@ -1,10 +1,10 @@
-use Rattle.std.proofs.Common.{rules, ◌≡◌, ◌%◌, ◌^◌, ◌<◌, Some, length, refl, ◌∙◌}
+use Rattle.std.proofs.Common.{rules, ◌≡◌, ◌%◌, ◌^◌, ◌<◌, Some, length, ◌∙◌}
 use Rattle.arch_defs.specs.declared.walks.Privilege.{Privilege}
 use Rattle.arch_defs.specs.Translation.{privilege_of}
 use Rattle.frame_set.specs.Holding.{has_among, has_frame}
 use Rattle.translation_buffer.specs.Places.{Translator, translated_place, translator}
 use Rattle.translation_buffer.proofs.KeptPages.{page_more}
-use Rattle.translation_buffer.proofs.KeptSlots.{all_more, kept_tag, kept_up_to, recent_among, walk_stands}
+use Rattle.translation_buffer.proofs.KeptSlots.{all_more, kept_page, kept_tag, kept_up_to, recent_among, walk_stands}
 use Rattle.translation_buffer.proofs.buffers.Buffer.walk.Goals as goal
 
 pub returns-in-Some-clause-serves : goal.returns-in-Some-clause-serves
@@ -20,7 +20,7 @@ returns-in-Some-clause-serves c =
       slots = c.keep.ensures.stand c.place_noted.new.read c.args.memory.now under c.args.self.now.run
           (walk_stands (has_among c.place_noted.new.read c.recent.result) c.args.memory.now under c.args.self.now.run who c.args.va c.in-Some.place c.args.access _ whole small
           (c.place_noted.ensures.noted (has_among c.place_noted.new.read c.recent.result) (recent_among c.place_noted.new.read c.recent.result c.recent.ensures)) is
-          (kept_tag c.args.self.now c.args.state.now.virt.first c.args.state.now.tag c.args.state.now.virt.csrs c.args.state.now.virt.mode c.args.memory.now c.args.va c.requires.serves small) refl)
+          (kept_tag c.args.self.now c.args.state.now.virt.first c.args.state.now.tag c.args.state.now.virt.csrs c.args.state.now.virt.mode c.args.memory.now c.args.va c.requires.serves small) c.delta.ensures)
           (all_more c.args.self.now.read c.place_noted.new.read c.args.memory.now under c.args.self.now.run c.args.self.now.slots
           (λ frame named. c.place_noted.ensures.more frame (c.begin.ensures.same frame ∙ named)) c.requires.serves.slots);
       page = page_more (has_frame c.args.self.now.read) (has_frame c.place_noted.new.read) c.args.memory.now (translator c.args.state.now.virt.first c.args.state.now.tag c.args.self.now.context) (privilege_of c.args.state.now.virt.csrs c.args.state.now.virt.mode) c.args.self.now.page
@@ -45,4 +45,7 @@ invariant_of-self c =
       tags = c.keep.ensures.tags c.args.self.now.run
           (kept_up_to c.args.self.now c.args.state.now.virt.first c.args.state.now.tag c.args.state.now.virt.csrs c.args.state.now.virt.mode c.args.memory.now c.args.va c.requires.serves small)
           c.args.self.now.tags;
+      homes = c.keep.ensures.homes
+          (kept_page c.args.self.now c.args.state.now.virt.first c.args.state.now.tag c.args.state.now.virt.csrs c.args.state.now.virt.mode c.args.memory.now c.args.va c.requires.serves small)
+          c.args.self.now.homes;
     }

@@ -1,12 +1,16 @@
-use Rattle.translation_buffer.proofs.DroppedSlots.{left_stand, left_up_to}
+use Rattle.std.proofs.Common.{subst, sym}
+use Rattle.std.specs.Prelude.{IfSome}
+use Rattle.translation_buffer.specs.Serving.{AllLackPage}
 use Rattle.translation_buffer.proofs.slots.Slots.drop_pages.Goals as goal
 
-pub returns-clause-stand : goal.returns-clause-stand
-returns-clause-stand c = left_stand c.args.self.now
-    (record { fetches = c.drop_each_of_pages.new.slots; loads = c.drop_each_of_pages-2.new.slots; stores = c.drop_each_of_pages-3.new.slots })
-    c.drop_each_of_pages.ensures.size c.drop_each_of_pages.ensures.left c.drop_each_of_pages-2.ensures.size c.drop_each_of_pages-2.ensures.left c.drop_each_of_pages-3.ensures.size c.drop_each_of_pages-3.ensures.left
+pub returns-in-Some-clause-stand : goal.returns-in-Some-clause-stand
+returns-in-Some-clause-stand c = λ read memory under run all. c.drop_page-in-Some.ensures.stand read memory under run (c.drop_page.ensures.stand read memory under run all)
 
-pub returns-clause-tags : goal.returns-clause-tags
-returns-clause-tags c = left_up_to c.args.self.now
-    (record { fetches = c.drop_each_of_pages.new.slots; loads = c.drop_each_of_pages-2.new.slots; stores = c.drop_each_of_pages-3.new.slots })
-    c.drop_each_of_pages.ensures.size c.drop_each_of_pages.ensures.left c.drop_each_of_pages-2.ensures.size c.drop_each_of_pages-2.ensures.left c.drop_each_of_pages-3.ensures.size c.drop_each_of_pages-3.ensures.left
+pub returns-in-Some-clause-tags : goal.returns-in-Some-clause-tags
+returns-in-Some-clause-tags c = λ run all. c.drop_page-in-Some.ensures.tags run (c.drop_page.ensures.tags run all)
+
+pub returns-in-Some-clause-lack : goal.returns-in-Some-clause-lack
+returns-in-Some-clause-lack c = λ all. (
+  c.drop_page-in-Some.ensures.others c.args.page (c.drop_page.ensures.lack all),
+  subst (λ o. IfSome o (λ p. AllLackPage p c.drop_page-in-Some.new.self)) (sym c.in-Some.is) (c.drop_page-in-Some.ensures.lack (c.drop_page.ensures.homes all)),
+)
