@@ -39,7 +39,7 @@ use Rattle.machine_defs.specs.FirstLeaves.{entries_of, found_at, found_by_effect
 use Rattle.instruction_laws.specs.MissedPlaces.{wanted_by, wanted_of}
 use Rattle.translation_buffer.specs.Places.{passed_by}
 use Rattle.rv64_hart.specs.Endings.{IfMade, attempt_at, attempt_of_effect, attempt_of_word, attempt_with}
-use Rattle.rv64_hart.specs.MachineMemory.{found_on, found_over, mmu_on, reading_of_memory}
+use Rattle.rv64_hart.specs.MachineMemory.{found_by_wanted, found_on, found_over, mmu_on, reading_of_memory}
 use Rattle.machine_defs.specs.declared.events.Event.TheVariants.{Plain, System}
 use Rattle.rv64_hart.specs.Steps.{Attempt, Makes, attempt_of, caching, caching_found, with_found_on}
 
@@ -84,27 +84,16 @@ leaf_passes through who va access leaf (root.Table mode asid ppn) is =
     leaf_by who va access leaf (walk (entry_words_through through.second through.reading) (ppn % 2 ^ 44) (supervisor_shape mode) va access) is
 
 -- what the access to data finds that a word wants
-abbrev found_for_wanted : Tag → Mmu → Virtual → Option DataAccess → List FirstEntry
-found_for_wanted tag through virt None = []
-found_for_wanted tag through virt (Some wanted) = found_for tag through virt wanted.address wanted.width (kind_of wanted.purpose)
+effect_found : (s : HartState) (memory : List ℕ) (effect : Effect) → found_by_effect s.tag (mmu_on s memory) s.virt effect ≡ found_by_wanted s memory (wanted_by effect)
+effect_found s memory (Sets rd value next) = refl
+effect_found s memory (Raises cause tval) = refl
+effect_found s memory (Data wanted) = refl
+effect_found s memory Calls = refl
+effect_found s memory (Privileged effect) = refl
 
-effect_found : (tag : Tag) (through : Mmu) (virt : Virtual) (effect : Effect) → found_by_effect tag through virt effect ≡ found_for_wanted tag through virt (wanted_by effect)
-effect_found tag through virt (Sets rd value next) = refl
-effect_found tag through virt (Raises cause tval) = refl
-effect_found tag through virt (Data wanted) = refl
-effect_found tag through virt Calls = refl
-effect_found tag through virt (Privileged effect) = refl
-
-op_found : (tag : Tag) (through : Mmu) (virt : Virtual) (op : Option Op) → found_by_op tag through virt op ≡ found_for_wanted tag through virt (wanted_of virt op)
-op_found tag through virt None = refl
-op_found tag through virt (Some op) = effect_found tag through virt (meaning op virt.regs)
-
-pub wanted_finds : (tag : Tag) (through : Mmu) (virt : Virtual) (op : Option Op) (wanted : DataAccess) (found : List FirstEntry) → Some wanted ≡ wanted_of virt op
-    → found ≡ found_for tag through virt wanted.address wanted.width (kind_of wanted.purpose) → found ≡ found_by_op tag through virt op
-wanted_finds tag through virt op wanted found is e = e ∙ ap (found_for_wanted tag through virt) is ∙ sym (op_found tag through virt op)
-
-pub none_wanted_finds : (tag : Tag) (through : Mmu) (virt : Virtual) (op : Option Op) → None ≡ wanted_of virt op → [] ≡ found_by_op tag through virt op
-none_wanted_finds tag through virt op is = ap (found_for_wanted tag through virt) is ∙ sym (op_found tag through virt op)
+pub op_found : (s : HartState) (memory : List ℕ) (op : Option Op) → found_by_wanted s memory (wanted_of s.virt op) ≡ found_by_op s.tag (mmu_on s memory) s.virt op
+op_found s memory None = refl
+op_found s memory (Some op) = sym (effect_found s memory (meaning op s.virt.regs))
 
 -- all that an instruction finds, by where its word is
 pub leaves_at : (tag : Tag) (through : Mmu) (virt : Virtual) (place : ℕ) (at_pc of_data : List FirstEntry) → fetch_place through virt ≡ At place

@@ -1,7 +1,9 @@
 pub mod Counts
+pub mod CsrWords
 pub mod Endings
 pub mod Laws
 pub mod Leaves
 pub mod Loans
 pub mod MachineMemory
+pub mod NextAccesses
 pub mod Steps

@@ -1,5 +1,5 @@
 -- Machine memory, which begins at 0, as the core sees it on the hart.
-use Rattle.std.specs.Prelude.{ℕ, List, Option}
+use Rattle.std.specs.Prelude.{ℕ, List, [], Option, Some, None}
 use Rattle.arch_defs.specs.declared.first.FirstEntry.{FirstEntry}
 use Rattle.arch_defs.specs.declared.hart_states.HartState.{HartState}
 use Rattle.arch_defs.specs.declared.modes.Access.{Access}
@@ -8,7 +8,7 @@ use Rattle.arch_defs.specs.declared.widths.Width.{Width}
 use Rattle.arch_defs.specs.Memory.{Known, Mmu, Reading, SecondStage, machine_memory, mmu, reading_of}
 use Rattle.arch_defs.specs.SecondStage.{second_by_walk}
 use Rattle.op_defs.specs.declared.ops.DataAccess.{DataAccess}
-use Rattle.machine_defs.specs.Core.{Located, accessed, fetch_place}
+use Rattle.machine_defs.specs.Core.{Located, accessed, fetch_place, kind_of}
 use Rattle.machine_defs.specs.FirstLeaves.{found_for, known_of, leaves_found}
 use Rattle.instruction_laws.specs.MissedPlaces.{wanted_at}
 
@@ -34,6 +34,12 @@ access_over memory s va width access = accessed (mmu_on s memory) s.virt.csrs s.
 
 abbrev pub found_over : List ℕ → HartState → ℕ → Width → Access → List FirstEntry
 found_over memory s va width access = found_for s.tag (mmu_on s memory) s.virt va width access
+
+-- and that of its access to data, if it wants one
+abbrev pub found_by_wanted : HartState → List ℕ → Option DataAccess → List FirstEntry
+found_by_wanted s memory None = []
+found_by_wanted s memory (Some wanted) =
+    found_over memory s wanted.address wanted.width (kind_of wanted.purpose)
 
 -- all that its next instruction finds
 unfoldable pub found_on : HartState → List ℕ → List FirstEntry

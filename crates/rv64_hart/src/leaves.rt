@@ -5,18 +5,17 @@ ghost use Rattle.arch_defs.specs.declared.first.Tag.{Tag};
 ghost use Rattle.arch_defs.specs.declared.modes.Mode.{Mode};
 ghost use Rattle.arch_defs.specs.declared.registers.Csrs.{Csrs};
 ghost use Rattle.arch_defs.specs.FirstEntries.{HasGuestFrame, all_filled};
-ghost use Rattle.op_defs.specs.Table.{op_of};
-ghost use Rattle.machine_defs.specs.FirstLeaves.{entries_of, found_by_op};
+ghost use Rattle.machine_defs.specs.FirstLeaves.{entries_of};
 ghost use Rattle.translation_buffer.specs.Serving.{Serves};
-ghost use Rattle.rv64_hart.specs.Leaves.{LeavesFit, leaves_list};
-ghost use Rattle.rv64_hart.specs.MachineMemory.{found_on, mmu_on};
+ghost use Rattle.rv64_hart.specs.Leaves.{AreNone, LeavesFit, leaves_list};
+ghost use Rattle.rv64_hart.specs.MachineMemory.{found_by_wanted, found_on, wanted_next};
 ghost use Rattle.rv64_hart.specs.Steps.{found_at_exit};
 
 use crate::accesses::word_at;
 use crate::walked_accesses::reach;
-use crate::wanted_accesses::wanted_of;
+use crate::wanted_accesses::{wanted_at, wanted_of};
 use arch_defs::{Access, FirstBuffer, FirstEntry, HartState, Trap, Width};
-use data_access::kind_of;
+use data_access::{DataAccess, kind_of};
 use phys_mem::PhysMem;
 use translation_buffer::Buffer;
 use trap_delegation::pending;
@@ -29,14 +28,15 @@ pub struct Leaves {
 }
 
 // Caches a translation, if there is one.
+#[inline]
 #[tactic(auto, unfolding(arch_defs::specs::FirstEntries::all_filled))]
-fn fill(first: &mut FirstBuffer, entry: Option<FirstEntry>)
-    requires { IfSome entry HasGuestFrame }
-    ensures { first.new ≡ all_filled first.old (entries_of entry) }
+fn fill(first: &mut FirstBuffer, found: Option<&FirstEntry>)
+    requires { IfSome found (λ e. HasGuestFrame e.now) }
+    ensures { first.new ≡ all_filled first.old (entries_of (option_map (λ e. e.now) found.entry)) }
 {
-    match entry {
+    match found {
         Some(entry) => {
-            let _ = first.fill(entry);
+            let _ = first.fill(*entry);
         }
         None => {}
     }
@@ -44,7 +44,9 @@ fn fill(first: &mut FirstBuffer, entry: Option<FirstEntry>)
 
 impl Leaves {
     /// None.
+    #[inline]
     pub fn none() -> Leaves
+        ensures none { AreNone result }
         ensures value { leaves_list result ≡ [] }
         ensures fits { LeavesFit result }
     {
@@ -55,13 +57,14 @@ impl Leaves {
     }
 
     /// Caches them.
+    #[inline]
     #[tactic(auto, using(crate::proofs::FirstFound::filled_both))]
     pub fn fill(&self, first: &mut FirstBuffer)
         requires { LeavesFit self.now }
         ensures { first.new ≡ all_filled first.old (leaves_list self.now) }
     {
-        fill(first, self.at_pc);
-        fill(first, self.of_data);
+        fill(first, self.at_pc.as_ref());
+        fill(first, self.of_data.as_ref());
     }
 }
 
@@ -81,54 +84,85 @@ pub fn cache(first: &mut FirstBuffer, buffer: &mut Buffer, found: Option<&FirstE
     }
 }
 
-// What the access to data finds that the instruction of a word makes.
-#[tactic(auto, using(crate::proofs::FirstFound::wanted_finds, crate::proofs::FirstFound::none_wanted_finds))]
-fn found_by_word(state: &HartState, memory: &PhysMem, word: u32) -> Option<FirstEntry>
-    ensures value { entries_of result ≡ found_by_op state.now.tag (mmu_on state.now memory.now)
-        state.now.virt (op_of word) }
-    ensures fits { IfSome result HasGuestFrame }
+// Puts into `entry` what an access to data finds, if one is wanted.
+fn find_wanted(
+    state: &HartState,
+    memory: &PhysMem,
+    wanted: &Option<DataAccess>,
+    entry: &mut Option<FirstEntry>,
+)
+    requires none { entry.old ≡ None }
+    ensures value { entries_of entry.new ≡ found_by_wanted state.now memory.now wanted.now }
+    ensures fits { IfSome entry.new HasGuestFrame }
 {
-    match wanted_of(&state.virt, word) {
+    match *wanted {
         Some(wanted) => {
             let (at, width) = (wanted.address, wanted.width);
             let access = kind_of(wanted.purpose);
-            let (mut trap, mut entry) = (Trap::of_interrupt(0), None);
-            let _ = reach(state, memory, at, width, access, &mut trap, &mut entry);
-            entry
+            let mut trap = Trap::of_interrupt(0);
+            let _ = reach(state, memory, at, width, access, &mut trap, entry);
+        }
+        None => {}
+    }
+}
+
+// What one instruction wants of data. What it finds is put into `found`.
+#[tactic(auto, using(crate::proofs::Places::wanted_found, crate::proofs::Places::wanted_none))]
+fn next_instruction(state: &HartState, memory: &PhysMem, found: &mut Leaves) -> Option<DataAccess>
+    requires none { AreNone found.old }
+    ensures found { leaves_list found.new ≡ found_on state.now memory.now }
+    ensures fits { LeavesFit found.new }
+    ensures wanted { result ≡ wanted_next state.now memory.now }
+{
+    let pc = state.virt.regs.pc;
+    let (width, access) = (Width::Word, Access::Fetch);
+    let mut trap = Trap::of_interrupt(0);
+    match reach(
+        state,
+        memory,
+        pc,
+        width,
+        access,
+        &mut trap,
+        &mut found.at_pc,
+    ) {
+        Some(place) => {
+            let wanted = wanted_of(&state.virt, word_at(memory, place));
+            find_wanted(state, memory, &wanted, &mut found.of_data);
+            wanted
         }
         None => None,
     }
 }
 
-// What one instruction finds.
-fn leaves_found(state: &HartState, memory: &PhysMem) -> Leaves
-    ensures value { leaves_list result ≡ found_on state.now memory.now }
-    ensures fits { LeavesFit result }
+/// What the hart's next step wants of data in this state, as `wanted_at` tells it. The first-stage
+/// translations that it finds are put into `found`: none where an interrupt is due. A step that the hart
+/// makes has cached them; one that it leaves has not.
+#[tactic(auto, unfolding(crate::specs::Steps::found_at_exit))]
+pub fn next_at_exit(state: &HartState, memory: &PhysMem, found: &mut Leaves) -> Option<DataAccess>
+    requires none { AreNone found.old }
+    ensures found { leaves_list found.new ≡ found_at_exit state.now memory.now }
+    ensures fits { LeavesFit found.new }
+    ensures wanted { result ≡ wanted_next state.now memory.now }
 {
-    let pc = state.virt.regs.pc;
-    let (width, access) = (Width::Word, Access::Fetch);
-    let (mut trap, mut at_pc) = (Trap::of_interrupt(0), None);
-    match reach(state, memory, pc, width, access, &mut trap, &mut at_pc) {
-        Some(place) => Leaves {
-            at_pc,
-            of_data: found_by_word(state, memory, word_at(memory, place)),
-        },
-        None => Leaves {
-            at_pc,
-            of_data: None,
-        },
+    match pending(&state.virt.csrs, state.virt.mode) {
+        Some(_) => wanted_at(state, memory),
+        None => next_instruction(state, memory, found),
     }
 }
 
-/// The first-stage translations that the hart's next step finds in this state: none where an interrupt is
-/// due. A step that the hart makes has cached them; one that it leaves has not.
+/// What the hart's next step finds, alone.
 #[tactic(auto, unfolding(crate::specs::Steps::found_at_exit))]
 pub fn found_at_exit(state: &HartState, memory: &PhysMem) -> Leaves
     ensures value { leaves_list result ≡ found_at_exit state.now memory.now }
     ensures fits { LeavesFit result }
 {
+    let mut found = Leaves::none();
     match pending(&state.virt.csrs, state.virt.mode) {
-        Some(_) => Leaves::none(),
-        None => leaves_found(state, memory),
+        Some(_) => found,
+        None => {
+            let _ = next_instruction(state, memory, &mut found);
+            found
+        }
     }
 }

@@ -7,6 +7,7 @@ mod endings;
 mod harts;
 mod laws;
 mod leaves;
+mod next_accesses;
 mod rare_instructions;
 mod steps;
 mod tallies;
@@ -15,7 +16,8 @@ mod wanted_accesses;
 
 pub use harts::{Hart, Stop, Why};
 pub use laws::guest_page_faults_exit;
-pub use leaves::{Leaves, found_at_exit};
+pub use leaves::{Leaves, found_at_exit, next_at_exit};
+pub use next_accesses::{access_at_pc, word_at_pc};
 pub use phys_mem::PhysMem;
 pub use tallies::Tally;
 pub use wanted_accesses::wanted_at;

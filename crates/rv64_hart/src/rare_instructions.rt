@@ -7,15 +7,17 @@ ghost use Rattle.arch_defs.specs.declared.first.Tag.{Tag};
 ghost use Rattle.arch_defs.specs.declared.hart_states.HartState.{HartState};
 ghost use Rattle.arch_defs.specs.declared.modes.Mode.{Mode};
 ghost use Rattle.arch_defs.specs.declared.registers.Csrs.{Csrs};
+ghost use Rattle.arch_defs.specs.Bits.{field};
 ghost use Rattle.arch_defs.specs.FirstEntries.{HasGuestFrame, all_filled, names_first, unnamed_first};
-ghost use Rattle.op_defs.specs.Meaning.{meaning, operand_of, writes};
-ghost use Rattle.op_defs.specs.Table.{is_system};
+ghost use Rattle.op_defs.specs.Meaning.{meaning};
+ghost use Rattle.op_defs.specs.Table.{csr_op_of, is_system};
 ghost use Rattle.machine_defs.specs.declared.events.Event.{Event};
 ghost use Rattle.machine_defs.specs.Core.{accessed_data, called_from, event_of, kind_of};
 ghost use Rattle.machine_defs.specs.FirstLeaves.{entries_of};
 ghost use Rattle.arch_defs.specs.Registers.{next};
-ghost use Rattle.machine_defs.specs.Privileges.{csr_accessed, privileged};
+ghost use Rattle.machine_defs.specs.Privileges.{privileged};
 ghost use Rattle.translation_buffer.specs.Serving.{Serves, ServesHart};
+ghost use Rattle.rv64_hart.specs.CsrWords.{csr_asked, csr_source};
 ghost use Rattle.rv64_hart.specs.Endings.{IfPlain, IfRaised, KeepsContext, HasSameTranslation, Unless, attempt_at, attempt_by, attempt_with};
 ghost use Rattle.rv64_hart.specs.MachineMemory.{found_over, mmu_on};
 ghost use Rattle.rv64_hart.specs.Steps.{Raises, attempt_of, caching, caching_found};
@@ -64,8 +66,8 @@ pub(crate) fn rare(
     }
 }
 
-// An instruction of opcode SYSTEM.
-#[inline(never)]
+// An instruction of opcode SYSTEM. One on a register is told by the fields of its word.
+#[inline]
 fn system(
     state: &mut HartState,
     memory: &mut PhysMem,
@@ -84,17 +86,34 @@ fn system(
     ensures serves { ServesHart buffer.new state.new memory.new }
     ensures plain { IfPlain result (KeepsContext state.old.virt state.new.virt) }
 {
+    if word / 4096 % 4 != 0 {
+        register(state, memory, buffer, word, found, trap)
+    } else {
+        without_register(state, memory, buffer, word, found, trap)
+    }
+}
+
+// One of opcode SYSTEM by its op.
+#[inline(never)]
+fn without_register(
+    state: &mut HartState,
+    memory: &mut PhysMem,
+    buffer: &mut Buffer,
+    word: u32,
+    found: Option<&FirstEntry>,
+    trap: &mut Trap,
+) -> Ended
+    requires system { is_system word ≡ true }
+    requires serves { ServesHart buffer.old state.old memory.old }
+    requires fits { IfSome found (λ e. HasGuestFrame e.now) }
+    ensures ends { attempt_at
+        (entries_of (option_map (λ e. e.now) found.entry)) state.old memory.old word
+        ≡ attempt_by result trap.new (event_of state.old.virt.regs.pc word) state.new memory.new }
+    ensures stays { IfRaised result ((state.new ≡ state.old) × (memory.new ≡ memory.old)) }
+    ensures serves { ServesHart buffer.new state.new memory.new }
+    ensures plain { IfPlain result (KeepsContext state.old.virt state.new.virt) }
+{
     match decode_system(word) {
-        Some(
-            Op::Csr {
-                op,
-                source,
-                rd,
-                number,
-            },
-        ) => register(
-            state, memory, buffer, word, op, source, rd, number, found, trap,
-        ),
         Some(op) => decided(state, memory, buffer, word, &op, found, trap),
         None => raise(state.virt.mode, ILLEGAL_INSTRUCTION, word as u64, trap),
     }
@@ -125,17 +144,46 @@ fn other(
     }
 }
 
-// An instruction on a control and status register.
+// What an instruction on a control and status register makes of it.
+#[inline]
+#[tactic(auto, unfolding(op_defs::specs::Table::csr_op_of))]
+fn csr_op(word: u32) -> CsrOp
+    ensures { result ≡ csr_op_of (field 12 2 word) }
+{
+    match (word >> 12) & 3 {
+        1 => CsrOp::Write,
+        2 => CsrOp::Set,
+        _ => CsrOp::Clear,
+    }
+}
+
+// Where its operand is.
+#[inline]
+fn csr_source(word: u32) -> CsrSource
+    ensures { result ≡ csr_source word }
+{
+    if (word >> 14) & 1 == 0 {
+        CsrSource::Register(Reg::at(word, 15))
+    } else {
+        CsrSource::Immediate(((word >> 15) & 31) as u8)
+    }
+}
+
+// The number of its register.
+#[inline]
+fn csr_number(word: u32) -> u16
+    ensures { result ≡ field 20 12 word }
+{
+    (word >> 20) as u16
+}
+
+// An instruction on a control and status register, by the fields of its word.
 #[inline(never)]
 fn register(
     state: &mut HartState,
     memory: &PhysMem,
     buffer: &mut Buffer,
     word: u32,
-    op: CsrOp,
-    source: CsrSource,
-    rd: Reg,
-    number: u16,
     found: Option<&FirstEntry>,
     trap: &mut Trap,
 ) -> Ended
@@ -143,15 +191,23 @@ fn register(
     requires fits { IfSome found (λ e. HasGuestFrame e.now) }
     ensures ends { (made : Event) → attempt_of
         (caching_found state.old (entries_of (option_map (λ e. e.now) found.entry))) memory.now
-        (csr_accessed state.old.virt word op number (operand_of source state.old.virt.regs)
-        (writes op source) rd) ≡ attempt_by result trap.new made state.new memory.now }
+        (csr_asked state.old.virt word) ≡ attempt_by result trap.new made state.new memory.now }
     ensures stays { IfRaised result (state.new ≡ state.old) }
     ensures serves { ServesHart buffer.new state.new memory.now }
     ensures plain { IfPlain result (KeepsContext state.old.virt state.new.virt) }
 {
+    let (op, source) = (csr_op(word), csr_source(word));
+    let number = csr_number(word);
     let operand = operand_of(&source, &state.virt.regs);
     let wrote = writes(op, &source);
-    match access_csr(&mut state.virt, op, number, operand, wrote, rd) {
+    match access_csr(
+        &mut state.virt,
+        op,
+        number,
+        operand,
+        wrote,
+        Reg::at(word, 7),
+    ) {
         Ok(()) => {
             settle_access(state, buffer, changes_context(wrote, number), found);
             Ended::System
@@ -322,7 +378,7 @@ fn privileged(
             Ended::System
         }
         Performed::FirstFenced(named, fence) => {
-            settle(state, buffer, found);
+            cache(&mut state.virt.first, buffer, found);
             fence_first(state, buffer, named, &fence);
             Ended::System
         }
@@ -375,17 +431,16 @@ fn settle_access(
 }
 
 // Drops the first-stage translations that a fence names, made for these accesses, or else for the hart's own,
-// and all that is kept.
+// and what is kept by them.
 fn fence_first(state: &mut HartState, buffer: &mut Buffer, named: Option<Tag>, fence: &Fence)
     ensures state { state.new ≡ caching state.old
         (unnamed_first (names_first (unwrap_or named state.old.tag) fence.now) state.old.virt.first) }
-    ensures serves { (memory : List ℕ) → ServesHart buffer.new state.new memory }
+    ensures serves { (memory : List ℕ) → ServesHart buffer.old state.old memory
+        → ServesHart buffer.new state.new memory }
 {
-    state
-        .virt
-        .first
-        .drop_named(named.unwrap_or(state.tag), fence);
-    buffer.restart(&state.virt.csrs, state.virt.mode);
+    let tag = named.unwrap_or(state.tag);
+    let virt = &mut state.virt;
+    buffer.fence(&mut virt.first, tag, fence, &virt.csrs, virt.mode);
 }
 
 /// Has what is kept go on for the registers and the mode as they are.

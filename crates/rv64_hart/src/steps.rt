@@ -268,7 +268,8 @@ fn last(
     one(ended(state, memory, buffer, word, tally, trap))
 }
 
-// The instruction of a word, whose own access at pc has found nothing. The tally gets the trace where it is made.
+// The instruction of a word, whose own access at pc has found nothing. The tally gets the trace where it is
+// made.
 #[inline(always)]
 #[tactic(auto, using(crate::proofs::FirstFound::word_ends))]
 fn ended(
@@ -704,13 +705,21 @@ fn due_now(state: &Virtual, quiet: &mut bool) -> Option<u64>
     if *quiet {
         return None;
     }
-    match pending(&state.csrs, state.mode) {
+    match looked(state) {
         Some(code) => Some(code),
         None => {
             *quiet = true;
             None
         }
     }
+}
+
+// The same by a look at the registers, which would cost the loop of common instructions a machine register.
+#[inline(never)]
+fn looked(state: &Virtual) -> Option<u64>
+    ensures { result ≡ due state.now.csrs state.now.mode }
+{
+    pending(&state.csrs, state.mode)
 }
 
 // One instruction with no kept translation of pc.

@@ -1,6 +1,8 @@
 use Rattle.std.proofs.Common.{◌≡◌, refl, subst, sym}
 use Rattle.translation_buffer.specs.Serving.{Serves}
 use Rattle.instruction_laws.proofs.KeptFirst.{KeepsFirst, privileged_first}
+use Rattle.machine_defs.specs.Outcomes.{FirstFenced}
+use Rattle.rv64_hart.proofs.Fences.{FenceKeeps, fence_keeps}
 use Rattle.rv64_hart.proofs.rare_instructions.privileged.Goals as goal
 
 pub returns-in-Done-clause-ends : goal.returns-in-Done-clause-ends
@@ -25,7 +27,7 @@ pub returns-in-FirstFenced-clause-ends : goal.returns-in-FirstFenced-clause-ends
 returns-in-FirstFenced-clause-ends c made =
     let keeps : c.perform.new.state.first ≡ c.args.state.now.virt.first =
     subst (KeepsFirst c.args.state.now.virt) (c.in-FirstFenced.ensures.ends c.args.word) (privileged_first c.args.state.now.virt c.args.word c.args.effect) in
-    rw (c.in-FirstFenced.ensures.ends c.args.word, c.fence_first.ensures.state, c.settle-in-FirstFenced.ensures.state, keeps) refl
+    rw (c.in-FirstFenced.ensures.ends c.args.word, c.fence_first.ensures.state, c.cache.ensures.filled, keeps) refl
 
 pub returns-in-Done-clause-serves : goal.returns-in-Done-clause-serves
 returns-in-Done-clause-serves c =
@@ -49,4 +51,10 @@ returns-in-Fenced-clause-serves c =
     (subst (λ first. Serves c.args.buffer.now first c.args.state.now.tag c.args.state.now.virt.csrs c.args.state.now.virt.mode c.args.memory.now) (sym keeps) c.requires.serves)
 
 pub returns-in-FirstFenced-clause-serves : goal.returns-in-FirstFenced-clause-serves
-returns-in-FirstFenced-clause-serves c = c.fence_first.ensures.serves c.args.memory.now
+returns-in-FirstFenced-clause-serves c =
+    let keeps : c.perform.new.state.first ≡ c.args.state.now.virt.first =
+    subst (KeepsFirst c.args.state.now.virt) (c.in-FirstFenced.ensures.ends c.args.word) (privileged_first c.args.state.now.virt c.args.word c.args.effect) in
+    let stays : FenceKeeps c.args.state.now.virt (FirstFenced c.perform.new.state c.in-FirstFenced.named c.in-FirstFenced.fence) =
+    subst (FenceKeeps c.args.state.now.virt) (c.in-FirstFenced.ensures.ends c.args.word) (fence_keeps c.args.state.now.virt c.args.word c.args.effect) in
+    c.fence_first.ensures.serves c.args.memory.now (c.cache.ensures.serves c.args.state.now.tag c.perform.new.state.csrs c.perform.new.state.mode c.args.memory.now
+    (rw (keeps, stays.0, stays.1) c.requires.serves))
