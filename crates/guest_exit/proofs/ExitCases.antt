@@ -16,14 +16,14 @@ use Rattle.machine_defs.specs.Outcomes.{Missed}
 use Rattle.machine_defs.specs.Tries.{device_of, try, unplaced}
 use Rattle.guest_exit.specs.declared.hart_exit.Handled.{Handled}
 use Rattle.guest_exit.specs.declared.hart_exit.Handled.TheVariants as handled
-use Rattle.hosted_steps.specs.ExitCases.{Exit, Instruction, Missing, Call, Own, IsLeft, data_wanted, entry_for, entry_for_exit, having_found, try_at}
+use Rattle.hosted_steps.specs.ExitCases.{Exit, Instruction, Missing, Call, Own, IsLeft, data_wanted, entry_for, entry_for_exit, found_next, having_found, try_at}
 use Rattle.guest_exit.specs.HartExit.{IsHandled, IsMadeOf, status_after}
 use Rattle.guest_exit.proofs.ForGood.{never_waits, waits_exactly}
 use Rattle.hosted_steps.proofs.ExitCases.{and_false}
 
 -- what is made of the exit is made of the machine's next step
-pub handled_by : (m after : Machine) (left : Exit) (found : List FirstEntry) (result : Handled) → IsLeft m found (try m) (missing_entry m) left → IsMadeOf left found result m after → IsHandled result m after
-handled_by m after left found result is made = record {
+pub handled_by : (m after : Machine) (left : Exit) (result : Handled) → IsLeft m (found_next m) (try m) (missing_entry m) left → IsMadeOf left result m after → IsHandled result m after
+handled_by m after left result is made = record {
   step = λ went. record { ready = is.fills ∙ made.ready went; step = made.step went ∙ ap (left_by m) (sym is.step) };
   fill = λ retry. let filled = made.fill retry in (filled.0, is.fills ∙ filled.1, filled.2);
 }
@@ -58,17 +58,17 @@ filled_traps m found Call e some = absurd (cc)
 filled_traps m found (Own trap) e some = absurd (cc)
 
 -- the answer tells of a wait for good
-pub handled_waits : (m after : Machine) (left : Exit) (found : List FirstEntry) (result : Handled) → m.platform.status ≡ Running → IsLeft m found (try m) (missing_entry m) left → IsMadeOf left found result m after
+pub handled_waits : (m after : Machine) (left : Exit) (result : Handled) → m.platform.status ≡ Running → IsLeft m (found_next m) (try m) (missing_entry m) left → IsMadeOf left result m after
     → after.platform.status ≡ status_after result → (result ≡ handled.Waits) ↔ (try m ≡ WaitsForGood)
-handled_waits m after left found handled.Retry running is made status =
+handled_waits m after left handled.Retry running is made status =
     let filled = made.fill refl in
-    let trap = filled_traps m found left filled.0 filled.1 in
-    never_waits m (having_found found m) trap.0 handled.Retry (λ e. absurd (cc)) (is.step ∙ trap.1)
-handled_waits m after left found handled.Stepped running is made status =
-    waits_exactly m after handled.Stepped running (((handled_by m after left found handled.Stepped is made).step (λ e. absurd (cc))).step) status
-handled_waits m after left found (handled.Trapped into interrupt) running is made status =
-    waits_exactly m after (handled.Trapped into interrupt) running (((handled_by m after left found (handled.Trapped into interrupt) is made).step (λ e. absurd (cc))).step) status
-handled_waits m after left found handled.Waits running is made status =
-    waits_exactly m after handled.Waits running (((handled_by m after left found handled.Waits is made).step (λ e. absurd (cc))).step) status
-handled_waits m after left found handled.Stopped running is made status =
-    waits_exactly m after handled.Stopped running (((handled_by m after left found handled.Stopped is made).step (λ e. absurd (cc))).step) status
+    let trap = filled_traps m (found_next m) left filled.0 filled.1 in
+    never_waits m (having_found (found_next m) m) trap.0 handled.Retry (λ e. absurd (cc)) (is.step ∙ trap.1)
+handled_waits m after left handled.Stepped running is made status =
+    waits_exactly m after handled.Stepped running (((handled_by m after left handled.Stepped is made).step (λ e. absurd (cc))).step) status
+handled_waits m after left (handled.Trapped into interrupt) running is made status =
+    waits_exactly m after (handled.Trapped into interrupt) running (((handled_by m after left (handled.Trapped into interrupt) is made).step (λ e. absurd (cc))).step) status
+handled_waits m after left handled.Waits running is made status =
+    waits_exactly m after handled.Waits running (((handled_by m after left handled.Waits is made).step (λ e. absurd (cc))).step) status
+handled_waits m after left handled.Stopped running is made status =
+    waits_exactly m after handled.Stopped running (((handled_by m after left handled.Stopped is made).step (λ e. absurd (cc))).step) status

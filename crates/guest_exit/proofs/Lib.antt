@@ -5,8 +5,10 @@ pub mod Entries
 pub mod ExitCases
 pub mod ForGood
 pub mod HlvAccesses
+pub mod LeftSteps
 pub mod Missed
 pub mod Moments
+pub mod NextSteps
 pub mod NoTable
 pub mod Placed
 pub mod Pools

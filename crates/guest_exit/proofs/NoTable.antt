@@ -20,6 +20,8 @@ use Rattle.machine_defs.specs.FirstLeaves.{entry_walked, found_at, found_by_effe
 use Rattle.machine_defs.specs.Machine.{Machine}
 use Rattle.machine_defs.specs.Tries.{found_by_try, found_with_code, mmu_under, stages_of}
 use Rattle.arch_defs.specs.Interrupts.{due}
+use Rattle.rv64_hart.specs.declared.leaves.Leaves.{Leaves}
+use Rattle.rv64_hart.specs.Leaves.{AreNone, leaves_list}
 use Rattle.hosted_steps.specs.ExitCases.{found_next}
 
 abbrev IsBare : Virtual → Type 0
@@ -58,9 +60,9 @@ unfolding leaves_found
 no_leaves tag through virt bare =
     rw (none_for tag through virt virt.regs.pc Word Fetch bare, none_at tag through virt (fetch_place through virt) bare) refl
 
-pub bare_finds_nothing : (m : Machine) → IsBare m.platform.virt → [] ≡ found_next m
+pub bare_finds_nothing : (m : Machine) (leaves : Leaves) → AreNone leaves → IsBare m.platform.virt → leaves_list leaves ≡ found_next m
 unfolding found_by_try
-bare_finds_nothing m bare = by (due m.platform.virt.csrs m.platform.virt.mode)
+bare_finds_nothing m leaves none bare = rw (none.0, none.1) (by (due m.platform.virt.csrs m.platform.virt.mode))
   where
     by : (code : Option ℕ) → [] ≡ found_with_code (stages_of m) m code
     by (Some code) = refl

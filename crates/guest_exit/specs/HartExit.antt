@@ -1,8 +1,7 @@
 -- What the host makes of a step that the hart has left to it.
-use Rattle.std.specs.Prelude.{ℕ, ◌≡◌, ◌≢◌, ◌↔◌, ◌+◌, ◌^◌, ◌≤◌, Bool, true, List, [], ◌∷◌, Some, None, ⊤}
+use Rattle.std.specs.Prelude.{ℕ, ◌≡◌, ◌≢◌, ◌↔◌, ◌+◌, ◌^◌, ◌≤◌, Bool, false, true, List, [], ◌∷◌, Some, None, ⊤}
 use Rattle.arch_defs.specs.declared.cached.Entry.{Entry}
 use Rattle.arch_defs.specs.declared.cached.Fence.{Fence}
-use Rattle.arch_defs.specs.declared.first.FirstEntry.{FirstEntry}
 use Rattle.arch_defs.specs.declared.modes.Trap.{Trap}
 use Rattle.arch_defs.specs.declared.registers.Virtual.{Virtual}
 use Rattle.arch_defs.specs.Frames.{Only}
@@ -27,7 +26,8 @@ use Rattle.hcsr_emulation.specs.Ends.{is_decided}
 use Rattle.guest_exit.specs.declared.guests.Guest.{Guest}
 use Rattle.guest_exit.specs.declared.hart_exit.Handled.{Handled}
 use Rattle.guest_exit.specs.declared.hart_exit.Handled.TheVariants.{Stepped, Trapped, Retry, Waits, Stopped}
-use Rattle.hosted_steps.specs.ExitCases.{Exit, Instruction, Missing, Call, Own, entry_for_exit, try_at}
+use Rattle.hosted_steps.specs.ExitCases.{Exit, Instruction, Missing, Call, Own, entry_for_exit, found_next, try_at}
+use Rattle.hosted_steps.specs.HartSteps.{host_takes}
 use Rattle.guest_exit.specs.HartEntry.{Hands}
 use Rattle.guest_exit.specs.Steps.{CanStep, Fills, IsNotPlain, MakesStep}
 use Rattle.guest_exit.specs.View.{IsPlaced, KeepsLayout, changed_by, machine_of, platform_of}
@@ -43,6 +43,11 @@ pub record CanGoOn (guest : Guest) (memory : List ℕ) : Type 0 where
 pub record HasExited (guest : Guest) (memory : List ℕ) (trap : Trap) : Type 0 where
   pub can : CanGoOn guest memory
   pub hands : Hands guest.part guest.pool (machine_of guest memory) memory trap
+
+-- it has left it, and its next step is not an interrupt that the host takes first
+pub record IsLeftToHost (guest : Guest) (memory : List ℕ) : Type 0 where
+  pub can : CanGoOn guest memory
+  pub own : host_takes guest.virt ≡ false
 
 -- the machine's next step is made, or what it lacks is filled, as the answer says
 pub record IsHandled (result : Handled) (before after : Machine) : Type 0 where
@@ -152,20 +157,22 @@ IsWaitOrFence (op.HfenceVvma rs1 rs2) = ⊤
 IsWaitOrFence (op.HfenceGvma rs1 rs2) = ⊤
 IsWaitOrFence other = ⊥
 
--- the step that the hart has left so, and that finds these first-stage translations, is made of the machine,
--- or what it lacks is filled
-pub record IsMadeOf (left : Exit) (found : List FirstEntry) (result : Handled) (before after : Machine)
-    : Type 0 where
+-- the machine's try at such a step
+abbrev pub try_left : Machine → Exit → Tried
+try_left m left = try_at (found_next m) m left
+
+-- the step that the hart has left so is made of the machine, or what it lacks is filled
+pub record IsMadeOf (left : Exit) (result : Handled) (before after : Machine) : Type 0 where
   pub ready : result ≢ Retry → entry_for_exit before left ≡ None
-  pub step : result ≢ Retry → after ≡ left_by before (try_at found before left)
+  pub step : result ≢ Retry → after ≡ left_by before (try_left before left)
   pub fill : result ≡ Retry → (e : Entry) × (entry_for_exit before left ≡ Some e) × (after ≡ fill before e)
 
 -- of a guest in machine memory so, which the answer tells
-pub record IsMadeFor (left : Exit) (found : List FirstEntry) (result : Handled) (before : Guest)
-    (memory : List ℕ) (after : Guest) (changed : List ℕ) : Type 0 where
-  pub makes : IsMadeOf left found result (machine_of before memory) (machine_of after changed)
+pub record IsMadeFor (left : Exit) (result : Handled) (before : Guest) (memory : List ℕ) (after : Guest)
+    (changed : List ℕ) : Type 0 where
+  pub makes : IsMadeOf left result (machine_of before memory) (machine_of after changed)
   pub stops : (result ≡ Stopped) ↔ IsStopCall left before.virt
-  pub quiet : IsNotPlain (try_at found (machine_of before memory) left)
-  pub event : IsToldEvent result (try_at found (machine_of before memory) left)
+  pub quiet : IsNotPlain (try_left (machine_of before memory) left)
+  pub event : IsToldEvent result (try_left (machine_of before memory) left)
   pub told : IsTold result before after
   pub within : KeepsOutside before memory after changed

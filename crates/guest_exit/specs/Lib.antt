@@ -6,3 +6,6 @@ pub mod Steps
 pub mod HartEntry
 -- The exit from it
 pub mod HartExit
+pub mod LeftSteps
+-- What its next step is about to do
+pub mod NextSteps

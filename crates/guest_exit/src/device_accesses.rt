@@ -3,32 +3,29 @@
 ghost use Rattle.std.specs.Prelude.{◌≡◌, ◌≢◌};
 ghost use Rattle.arch_defs.specs.SecondStage.{is_implicit};
 ghost use Rattle.machine_defs.specs.DeviceSteps.{device_step, on_device};
-ghost use Rattle.hosted_steps.specs.ExitCases.{data_wanted, having_found};
-ghost use Rattle.guest_exit.specs.HartExit.{CanGoOn, IsTold, TellsEvent};
+ghost use Rattle.hosted_steps.specs.ExitCases.{data_wanted, found_next, having_found};
+ghost use Rattle.guest_exit.specs.HartExit.{IsLeftToHost, IsTold, TellsEvent};
 ghost use Rattle.guest_exit.specs.Steps.{CanStep, Makes};
 ghost use Rattle.guest_exit.specs.View.{KeepsSpaces, machine_of};
 
-use crate::found_leaves::FoundLeaves;
+use crate::found_leaves::next_step;
 use crate::guests::Guest;
-use crate::hart_entry::hart_state_for;
 use crate::hart_exit::{Handled, raise};
 use arch_defs::{Access, MissingPlace};
 use op_defs::DataAccess;
 use phys_mem::PhysMem;
-use rv64_hart::wanted_at;
+use rv64_hart::Leaves;
 
-/// Makes the access of the guest's next instruction to the device page, which finds these first-stage
-/// translations. The read of an entry there, and an access that the page does not serve, are access faults.
-pub(crate) fn access_device(
-    guest: &mut Guest,
-    memory: &PhysMem,
-    missing: &MissingPlace,
-    found: &FoundLeaves,
-) -> Handled
-    requires can { CanGoOn guest.old memory.now }
-    ensures step { Makes guest.old guest.new (λ m. on_device (having_found found.now m) missing.now
+/// Makes the access of the guest's next instruction to the device page. The read of an entry there, and an
+/// access that the page does not serve, are access faults.
+#[inline(never)]
+pub(crate) fn access_device(guest: &mut Guest, memory: &PhysMem, missing: &MissingPlace) -> Handled
+    requires left { IsLeftToHost guest.old memory.now }
+    ensures step { Makes guest.old guest.new
+        (λ m. on_device (having_found (found_next (machine_of guest.old memory.now)) m) missing.now
         (data_wanted (machine_of guest.old memory.now))) }
-    ensures event { TellsEvent result guest.old (λ m. on_device (having_found found.now m) missing.now
+    ensures event { TellsEvent result guest.old
+        (λ m. on_device (having_found (found_next (machine_of guest.old memory.now)) m) missing.now
         (data_wanted (machine_of guest.old memory.now))) }
     ensures told { IsTold result guest.old guest.new }
     ensures goes { result ≢ Handled.Waits }
@@ -36,7 +33,8 @@ pub(crate) fn access_device(
     ensures runs { result ≢ Handled.Stopped }
     ensures keeps { KeepsSpaces guest.old guest.new }
 {
-    let wanted = wanted(guest, memory);
+    let mut found = Leaves::none();
+    let wanted = next_step(guest, memory, &mut found);
     found.fill(&mut guest.virt.first);
     if is_implicit(missing.kind) {
         return raise(guest, &missing.access_fault());
@@ -52,15 +50,6 @@ fn is_implicit(kind: Access) -> bool
     ensures { result ≡ is_implicit kind }
 {
     matches!(kind, Access::Implicit)
-}
-
-// The access to data that the guest's next instruction wants: what the hart, loaded for the guest, fetches.
-fn wanted(guest: &Guest, memory: &PhysMem) -> Option<DataAccess>
-    requires can { CanGoOn guest.now memory.now }
-    ensures { result ≡ data_wanted (machine_of guest.now memory.now) }
-{
-    let hart = hart_state_for(guest);
-    wanted_at(&hart, memory)
 }
 
 // An access to data on the page.

@@ -15,7 +15,7 @@ ghost use Rattle.arch_defs.specs.Traps.{is_virtual};
 ghost use Rattle.world_switch.specs.Hosting.{hosted_level};
 
 use crate::guests::{Guest, folds};
-use arch_defs::{HartState, Level, Tag, Trap, Virtual};
+use arch_defs::{HartState, Level, Trap, Virtual};
 use machine_defs::Event;
 use phys_mem::PhysMem;
 use rv64_hart::{Hart, Stop, Tally, Why};
@@ -142,18 +142,13 @@ fn root_frame_of(guest: &Guest) -> u64
     }
 }
 
-/// What the hart has for the guest, where it is loaded.
+/// Gives the hart what it has for the guest.
 #[tactic(auto, unfolding(hosted_steps::specs::HartSteps::root_for))]
-pub(crate) fn hart_state_for(guest: &Guest) -> HartState
+pub(crate) fn load_for(guest: &Guest, hart: &mut HartState)
     requires held { ReservesWithin (in_ram guest.now.part.blocks) guest.now.virt.reservation }
-    ensures { result ≡ loaded_for guest.now }
+    ensures { hart.new ≡ loaded_for guest.now }
 {
-    let mut hart = HartState {
-        virt: guest.virt,
-        tag: Tag::Flat,
-    };
-    load(&guest.virt, &guest.part, root_frame_of(guest), &mut hart);
-    hart
+    load(&guest.virt, &guest.part, root_frame_of(guest), hart);
 }
 
 // Whether the hart is to stop after a trap into VS.

@@ -1,8 +1,7 @@
 // Interrupts that the host takes.
 
-ghost use Rattle.std.specs.Prelude.{◌≡◌, List, Some, None, ℕ, false, true};
-ghost use Rattle.arch_defs.specs.declared.modes.Mode.{Mode};
-ghost use Rattle.arch_defs.specs.Interrupts.{due, vs_bit};
+ghost use Rattle.std.specs.Prelude.{◌≡◌, List, Some, ℕ, false, true};
+ghost use Rattle.arch_defs.specs.Interrupts.{vs_bit};
 ghost use Rattle.arch_defs.specs.Traps.{is_virtual};
 ghost use Rattle.guest_settings.specs.declared.statuses.Status.TheVariants.{Running};
 ghost use Rattle.hosted_steps.specs.HartSteps.{host_takes, is_hosts};
@@ -11,7 +10,7 @@ ghost use Rattle.guest_exit.specs.View.{IsPlaced, KeepsSpaces};
 
 use crate::guests::Guest;
 use crate::traps::take;
-use arch_defs::{Csrs, Interrupts, Trap, VS_EXTERNAL, VS_SOFTWARE, VS_TIMER, Virtual};
+use arch_defs::{Interrupts, Trap, VS_EXTERNAL, VS_SOFTWARE, VS_TIMER, Virtual};
 use trap_delegation::pending;
 
 /// Takes the interrupt that is due where the hart cannot: with V = 0 one of VS that is not delegated, with V
@@ -26,10 +25,6 @@ pub fn interrupt(guest: &mut Guest) -> bool
     ensures status { guest.new.status ≡ Running }
     ensures keeps { KeepsSpaces guest.old guest.new }
 {
-    // Mostly none is even pending.
-    if is_none_pending(&guest.virt.csrs) {
-        return false;
-    }
     match pending(&guest.virt.csrs, guest.virt.mode) {
         Some(code) => {
             if is_hosts(code, &guest.virt) {
@@ -42,14 +37,6 @@ pub fn interrupt(guest: &mut Guest) -> bool
         }
         None => false,
     }
-}
-
-// Whether no interrupt is pending: then none is due, whatever the mode is.
-#[tactic(auto, using(trap_delegation::proofs::Due::nothing_pending))]
-fn is_none_pending(csrs: &Csrs) -> bool
-    ensures { result ≡ true → (mode : Mode) → due csrs.now mode ≡ None }
-{
-    csrs.sip == Interrupts::clear() && csrs.hvip == Interrupts::clear()
 }
 
 // Whether an interrupt is one that the hart does not take.

@@ -10,43 +10,39 @@ ghost use Rattle.arch_defs.specs.Spaces.{front};
 ghost use Rattle.machine_defs.specs.Machine.{trapped};
 ghost use Rattle.machine_defs.specs.Tries.{device_of};
 ghost use Rattle.shadow_pool.specs.Slots.{spaces_of};
-ghost use Rattle.hosted_steps.specs.ExitCases.{Missing, entry_for, having_found, try_at};
-ghost use Rattle.guest_exit.specs.HartExit.{CanGoOn, IsMadeOf, IsTold, IsToldEvent, KeepsOutside, TellsEvent};
+ghost use Rattle.hosted_steps.specs.ExitCases.{Missing, entry_for, found_next, having_found};
+ghost use Rattle.guest_exit.specs.HartExit.{IsLeftToHost, IsMadeOf, IsTold, IsToldEvent, KeepsOutside, TellsEvent, try_left};
 ghost use Rattle.guest_exit.specs.Steps.{IsNotPlain, Makes};
 ghost use Rattle.guest_exit.specs.View.{KeepsSpaces, machine_of};
 
 use crate::device_accesses::access_device;
-use crate::found_leaves::FoundLeaves;
+use crate::found_leaves::find_next;
 use crate::guests::{Guest, folds};
 use crate::hart_exit::{Handled, raise};
 use arch_defs::{Entry, Trap};
 use phys_mem::{PhysMem, Ram};
+use rv64_hart::Leaves;
 use two_stage_walk::{MissingPlace, entry_by_walk, is_on_device, missing_place_trap};
 
 /// An access to which the second stage gives no place. On the device page of a guest that has one it is made
 /// there. Else, where the guest folds and the walk of its own table has a leaf for it, the entry is filled,
 /// no step is made, and what the step finds of the first stage is not cached; and else the fault of that walk
 /// is taken.
-pub fn miss(
-    guest: &mut Guest,
-    memory: &mut PhysMem,
-    access: &MissingPlace,
-    found: &FoundLeaves,
-) -> Handled
-    requires can { CanGoOn guest.old memory.old }
-    ensures makes { IsMadeOf (Missing access.now) found.now result
+pub fn miss(guest: &mut Guest, memory: &mut PhysMem, access: &MissingPlace) -> Handled
+    requires left { IsLeftToHost guest.old memory.old }
+    ensures makes { IsMadeOf (Missing access.now) result
         (machine_of guest.old memory.old) (machine_of guest.new memory.new) }
     ensures quiet { IsNotPlain
-        (try_at found.now (machine_of guest.old memory.old) (Missing access.now)) }
+        (try_left (machine_of guest.old memory.old) (Missing access.now)) }
     ensures event { IsToldEvent result
-        (try_at found.now (machine_of guest.old memory.old) (Missing access.now)) }
+        (try_left (machine_of guest.old memory.old) (Missing access.now)) }
     ensures goes { result ≢ Handled.Waits }
     ensures runs { result ≢ Handled.Stopped }
     ensures within { KeepsOutside guest.old memory.old guest.new memory.new }
     ensures told { IsTold result guest.old guest.new }
 {
     if has_on_device(guest, access) {
-        return access_device(guest, memory, access, found);
+        return access_device(guest, memory, access);
     }
     match entry_for(guest, memory, access) {
         Some(entry) => {
@@ -54,23 +50,20 @@ pub fn miss(
             guest.pool.fill(memory, key, entry);
             Handled::Retry
         }
-        None => raise_fault(guest, memory, access, found),
+        None => raise_fault(guest, memory, access),
     }
 }
 
 // The fault of the walk of the guest's own table for such an access is taken.
 #[inline(never)]
-fn raise_fault(
-    guest: &mut Guest,
-    memory: &mut PhysMem,
-    access: &MissingPlace,
-    found: &FoundLeaves,
-) -> Handled
-    requires can { CanGoOn guest.old memory.old }
-    ensures step { Makes guest.old guest.new (λ m. trapped (having_found found.now m)
+fn raise_fault(guest: &mut Guest, memory: &mut PhysMem, access: &MissingPlace) -> Handled
+    requires left { IsLeftToHost guest.old memory.old }
+    ensures step { Makes guest.old guest.new
+        (λ m. trapped (having_found (found_next (machine_of guest.old memory.old)) m)
         (missing_place_trap guest.old.virt.csrs (ram_memory (ram_of guest.old.part.blocks memory.old))
         access.now)) }
-    ensures event { TellsEvent result guest.old (λ m. trapped (having_found found.now m)
+    ensures event { TellsEvent result guest.old
+        (λ m. trapped (having_found (found_next (machine_of guest.old memory.old)) m)
         (missing_place_trap guest.old.virt.csrs (ram_memory (ram_of guest.old.part.blocks memory.old))
         access.now)) }
     ensures told { IsTold result guest.old guest.new }
@@ -80,8 +73,10 @@ fn raise_fault(
     ensures keeps { KeepsSpaces guest.old guest.new }
     ensures stays { memory.new ≡ memory.old }
 {
-    let fault = fault_of(guest, memory, access);
+    let mut found = Leaves::none();
+    find_next(guest, memory, &mut found);
     found.fill(&mut guest.virt.first);
+    let fault = fault_of(guest, memory, access);
     raise(guest, &fault)
 }
 

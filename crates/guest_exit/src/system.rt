@@ -14,12 +14,12 @@ ghost use Rattle.run_laws.specs.StorableStates.{IsStorable};
 ghost use Rattle.rv64_asm.specs.Fitting.{fits};
 ghost use Rattle.hcsr_emulation.specs.Ends.{IfAccessRaised, IsCsrOrSret};
 ghost use Rattle.hlv_hsv.specs.Ends.{IsAccessed, IsHlvOp, hlv_state};
-ghost use Rattle.hosted_steps.specs.ExitCases.{try_decided};
-ghost use Rattle.guest_exit.specs.HartExit.{CanGoOn, HoldsTables, IsDecidedOp, IsFenced, IsFinished, IsTold, IsWaitOrFence, KeepsOutside, events_told};
+ghost use Rattle.hosted_steps.specs.ExitCases.{Instruction};
+ghost use Rattle.guest_exit.specs.HartExit.{HoldsTables, IsDecidedOp, IsFenced, IsFinished, IsLeftToHost, IsTold, IsWaitOrFence, KeepsOutside, events_told, try_left};
 ghost use Rattle.guest_exit.specs.Steps.{CanStep, IsNotPlain, Makes};
 ghost use Rattle.guest_exit.specs.View.{KeepsSpaces, machine_of};
 
-use crate::found_leaves::FoundLeaves;
+use crate::found_leaves::find_next;
 use crate::guests::{Guest, folds};
 use crate::hart_exit::{Handled, raise};
 use crate::wfi::wait;
@@ -28,19 +28,20 @@ use console_dev::Console;
 use hcsr_emulation::{Accessed, Emulated};
 use op_defs::Op;
 use phys_mem::{PhysMem, Ram};
+use rv64_hart::Leaves;
 use world_switch::tag_of;
 
 /// Makes an instruction on which the mode decides, where it is allowed: an instruction on a register; an
 /// SRET, which may enter a guest of the guest; an HLV, HLVX or HSV, which makes its access to the guest's
 /// RAM; a WFI, which waits; or a fence, which drops cached translations. Where the mode does not allow it,
 /// its exception is taken. What it finds of the first stage is cached before that, unless it waits for good.
-pub fn emulate(guest: &mut Guest, memory: &mut PhysMem, op: &Op, found: &FoundLeaves) -> Handled
-    requires can { CanGoOn guest.old memory.old }
+pub fn emulate(guest: &mut Guest, memory: &mut PhysMem, op: &Op) -> Handled
+    requires left { IsLeftToHost guest.old memory.old }
     requires op { IsDecidedOp op.now }
     ensures step { machine_of guest.new memory.new ≡ left_by (machine_of guest.old memory.old)
-        (try_decided found.now (machine_of guest.old memory.old) op.now) }
-    ensures quiet { IsNotPlain (try_decided found.now (machine_of guest.old memory.old) op.now) }
-    ensures event { event_in (try_decided found.now (machine_of guest.old memory.old) op.now)
+        (try_left (machine_of guest.old memory.old) (Instruction op.now)) }
+    ensures quiet { IsNotPlain (try_left (machine_of guest.old memory.old) (Instruction op.now)) }
+    ensures event { event_in (try_left (machine_of guest.old memory.old) (Instruction op.now))
         ≡ events_told result }
     ensures went { result ≢ Handled.Retry }
     ensures runs { result ≢ Handled.Stopped }
@@ -48,31 +49,26 @@ pub fn emulate(guest: &mut Guest, memory: &mut PhysMem, op: &Op, found: &FoundLe
     ensures told { IsTold result guest.old guest.new }
 {
     match *op {
-        Op::Csr { .. } | Op::Sret => access_registers(guest, memory, op, found),
+        Op::Csr { .. } | Op::Sret => access_registers(guest, memory, op),
         Op::GuestLoad { .. } | Op::GuestFetch { .. } | Op::GuestStore { .. } => {
-            access_ram(guest, memory, op, found)
+            access_ram(guest, memory, op)
         }
         Op::Wfi | Op::SfenceVma { .. } | Op::HfenceVvma { .. } | Op::HfenceGvma { .. } => {
-            wait_or_fence(guest, memory, op, found)
+            wait_or_fence(guest, memory, op)
         }
         _ => unreachable!(),
     }
 }
 
 // An instruction on a control and status register, or an SRET.
-fn access_registers(
-    guest: &mut Guest,
-    memory: &mut PhysMem,
-    op: &Op,
-    found: &FoundLeaves,
-) -> Handled
-    requires can { CanGoOn guest.old memory.old }
+fn access_registers(guest: &mut Guest, memory: &mut PhysMem, op: &Op) -> Handled
+    requires left { IsLeftToHost guest.old memory.old }
     requires kind { IsCsrOrSret op.now }
     requires fits { fits op.now ≡ true }
     ensures step { machine_of guest.new memory.new ≡ left_by (machine_of guest.old memory.old)
-        (try_decided found.now (machine_of guest.old memory.old) op.now) }
-    ensures quiet { IsNotPlain (try_decided found.now (machine_of guest.old memory.old) op.now) }
-    ensures event { event_in (try_decided found.now (machine_of guest.old memory.old) op.now)
+        (try_left (machine_of guest.old memory.old) (Instruction op.now)) }
+    ensures quiet { IsNotPlain (try_left (machine_of guest.old memory.old) (Instruction op.now)) }
+    ensures event { event_in (try_left (machine_of guest.old memory.old) (Instruction op.now))
         ≡ events_told result }
     ensures went { result ≢ Handled.Retry }
     ensures runs { result ≢ Handled.Stopped }
@@ -80,22 +76,28 @@ fn access_registers(
     ensures told { IsTold result guest.old guest.new }
 {
     let nested = guest.virt.mode.is_virtual();
-    let end = hcsr_emulation::access(&mut guest.virt, *op);
-    found.fill(&mut guest.virt.first);
-    match end {
-        Accessed::Done => finish(guest, memory, nested),
-        Accessed::Raise(trap) => raise(guest, &trap),
+    let mut found = Leaves::none();
+    find_next(guest, memory, &mut found);
+    match hcsr_emulation::access(&mut guest.virt, *op) {
+        Accessed::Done => {
+            found.fill(&mut guest.virt.first);
+            finish(guest, memory, nested)
+        }
+        Accessed::Raise(trap) => {
+            found.fill(&mut guest.virt.first);
+            raise(guest, &trap)
+        }
     }
 }
 
 // A WFI or a fence.
-fn wait_or_fence(guest: &mut Guest, memory: &mut PhysMem, op: &Op, found: &FoundLeaves) -> Handled
-    requires can { CanGoOn guest.old memory.old }
+fn wait_or_fence(guest: &mut Guest, memory: &mut PhysMem, op: &Op) -> Handled
+    requires left { IsLeftToHost guest.old memory.old }
     requires kind { IsWaitOrFence op.now }
     ensures step { machine_of guest.new memory.new ≡ left_by (machine_of guest.old memory.old)
-        (try_decided found.now (machine_of guest.old memory.old) op.now) }
-    ensures quiet { IsNotPlain (try_decided found.now (machine_of guest.old memory.old) op.now) }
-    ensures event { event_in (try_decided found.now (machine_of guest.old memory.old) op.now)
+        (try_left (machine_of guest.old memory.old) (Instruction op.now)) }
+    ensures quiet { IsNotPlain (try_left (machine_of guest.old memory.old) (Instruction op.now)) }
+    ensures event { event_in (try_left (machine_of guest.old memory.old) (Instruction op.now))
         ≡ events_told result }
     ensures went { result ≢ Handled.Retry }
     ensures runs { result ≢ Handled.Stopped }
@@ -103,6 +105,8 @@ fn wait_or_fence(guest: &mut Guest, memory: &mut PhysMem, op: &Op, found: &Found
     ensures told { IsTold result guest.old guest.new }
 {
     let nested = guest.virt.mode.is_virtual();
+    let mut found = Leaves::none();
+    find_next(guest, memory, &mut found);
     let own = tag_of(&guest.virt);
     let pc = guest.virt.regs.pc;
     match hcsr_emulation::emulate(&mut guest.virt, *op) {
@@ -110,7 +114,7 @@ fn wait_or_fence(guest: &mut Guest, memory: &mut PhysMem, op: &Op, found: &Found
             found.fill(&mut guest.virt.first);
             finish(guest, memory, nested)
         }
-        Emulated::Waits => wait(guest, pc, found),
+        Emulated::Waits => wait(guest, pc, &found),
         Emulated::Fenced(named) => {
             found.fill(&mut guest.virt.first);
             fence(guest, memory, named)
@@ -200,19 +204,21 @@ fn first_fence(guest: &mut Guest, tag: Tag, named: &Fence) -> Handled
 }
 
 // An HLV, HLVX or HSV. Its trap is taken in the mode of the instruction.
-fn access_ram(guest: &mut Guest, memory: &mut PhysMem, op: &Op, found: &FoundLeaves) -> Handled
-    requires can { CanGoOn guest.old memory.old }
+fn access_ram(guest: &mut Guest, memory: &mut PhysMem, op: &Op) -> Handled
+    requires left { IsLeftToHost guest.old memory.old }
     requires op { IsHlvOp op.now }
     ensures step { machine_of guest.new memory.new ≡ left_by (machine_of guest.old memory.old)
-        (try_decided found.now (machine_of guest.old memory.old) op.now) }
-    ensures quiet { IsNotPlain (try_decided found.now (machine_of guest.old memory.old) op.now) }
-    ensures event { event_in (try_decided found.now (machine_of guest.old memory.old) op.now)
+        (try_left (machine_of guest.old memory.old) (Instruction op.now)) }
+    ensures quiet { IsNotPlain (try_left (machine_of guest.old memory.old) (Instruction op.now)) }
+    ensures event { event_in (try_left (machine_of guest.old memory.old) (Instruction op.now))
         ≡ events_told result }
     ensures went { result ≢ Handled.Retry }
     ensures runs { result ≢ Handled.Stopped }
     ensures within { KeepsOutside guest.old memory.old guest.new memory.new }
     ensures told { IsTold result guest.old guest.new }
 {
+    let mut found = Leaves::none();
+    find_next(guest, memory, &mut found);
     found.fill(&mut guest.virt.first);
     let (device, console) = (guest.device, &mut guest.console);
     match access_in(memory, &guest.part, &mut guest.virt, *op, device, console) {

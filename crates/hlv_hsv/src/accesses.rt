@@ -9,10 +9,11 @@ ghost use Rattle.machine_defs.specs.DeviceSteps.{device_completed};
 ghost use Rattle.machine_defs.specs.HlvAccesses.{hlv_mode, hlv_outcome};
 ghost use Rattle.hcsr_emulation.specs.Ends.{IfAccessRaised};
 ghost use Rattle.hlv_hsv.specs.Ends.{EndsAs, IsAccessed, IsHlvOp, hlv_left, hlv_state, served_from};
+ghost use Rattle.hlv_hsv.specs.Places.{hlv_place_in};
 
 use arch_defs::{Csrs, Mode, Trap, Virtual};
 use console_dev::Console;
-use data_access::{Place, complete, kind_of, place_or_page};
+use data_access::{Place, complete, kind_of, place_for, place_or_page};
 use device_page::serve;
 use hcsr_emulation::{Accessed, Emulated, emulate};
 use op_defs::{DataAccess, Op};
@@ -26,6 +27,20 @@ fn hlv_mode(csrs: &Csrs) -> Mode
         Mode::VS
     } else {
         Mode::VU
+    }
+}
+
+/// Where in memory the access of an HLV, HLVX or HSV is made, by tables as memory has them. None where it has
+/// no place there.
+pub fn place<M: Mem>(mem: &M, csrs: &Csrs, wanted: &DataAccess) -> Option<u64>
+    requires { M.is_backed mem.now }
+    ensures { result ≡ hlv_place_in (M.memory mem.now) csrs.now wanted.now }
+{
+    let (at, width) = (wanted.address, wanted.width);
+    let kind = kind_of(wanted.purpose);
+    match place_for(mem, csrs, hlv_mode(csrs), at, width, kind) {
+        Ok(place) => Some(place),
+        Err(_) => None,
     }
 }
 

@@ -3,7 +3,7 @@
 
 mod accesses;
 
-pub use accesses::access;
+pub use accesses::{access, place};
 pub use hcsr_emulation::Accessed;
 pub use op_defs::Op;
 pub use phys_mem::Mem;

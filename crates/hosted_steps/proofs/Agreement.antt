@@ -55,11 +55,11 @@ misaligned_own ExecLoad = own_4
 misaligned_own Implicit = own_4
 
 -- the accesses that the hart makes, each of which its guest-page fault tells
-record IsPlain (access : Access) : Type 0 where
-  told : access_of (faults_of access).guest_page ≡ access
-  explicit : is_implicit access ≡ false
+pub record IsPlain (access : Access) : Type 0 where
+  pub told : access_of (faults_of access).guest_page ≡ access
+  pub explicit : is_implicit access ≡ false
 
-fetch_plain : IsPlain Fetch
+pub fetch_plain : IsPlain Fetch
 fetch_plain = record { told = refl; explicit = refl }
 
 load_plain : IsPlain Load
@@ -86,7 +86,7 @@ located_alike root s through va access plain =
     rw (translates_alike root through.second through.reading s.csrs s.mode va access)
     (by_first s through.second va access (found_with (through.known va access) (first_stage through.second through.reading s.csrs s.mode va access)) plain)
 
-access_alike : (root : GuestRoot) (s : Virtual) (through : Mmu) (va : ℕ) (width : Width) (access : Access) → IsPlain access
+pub access_alike : (root : GuestRoot) (s : Virtual) (through : Mmu) (va : ℕ) (width : Width) (access : Access) → IsPlain access
     → SamePlace s (accessed through s.csrs s.mode va width access) (accessed through (hart_state_of root s).csrs (hosted_mode s.mode) va width access)
 access_alike root s through va width access plain =
     elim (va % bytes_in width == 0) as (λ b.
@@ -130,7 +130,7 @@ called_alike root s VS = Nested refl refl refl
 called_alike root s VU = Own ECALL_FROM_USER 0 refl refl own_8
 
 -- an instruction raises the guest's own exceptions alone, and makes no access of its own as HLVX does
-abbrev IsFine : Effect → Type 0
+abbrev pub IsFine : Effect → Type 0
 IsFine (Raises cause tval) = IsOwn cause
 IsFine (Data wanted) = IsPlain (kind_of wanted.purpose)
 IsFine _ = Unit {0}
@@ -143,7 +143,7 @@ branch_fine : (taken : Bool) (next target : ℕ) → IsFine (branch taken next t
 branch_fine true next target = jump_fine 0 0 target
 branch_fine false next target = tt
 
-meaning_fine : (o : Op) (regs : Regs) → IsFine (meaning o regs)
+pub meaning_fine : (o : Op) (regs : Regs) → IsFine (meaning o regs)
 unfolding meaning
 meaning_fine (op.Lui rd immediate) regs = tt
 meaning_fine (op.Auipc rd immediate) regs = tt

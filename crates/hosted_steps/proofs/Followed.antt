@@ -402,7 +402,7 @@ absent_at m missing wanted is =
     (stops (second_of m) (second_of m) (record { gives = λ address place kind e. e }) (stages_of m).known (reading_of (ram_memory m.ram)) m.platform.virt missing wanted is).none
 
 -- what its first-stage translations say keeps the offset in a page
-keeps_page : (m : Machine) → KeepsPage (stages_of m).known
+pub keeps_page : (m : Machine) → KeepsPage (stages_of m).known
 keeps_page m = cached_keeps_page m.platform.virt.first (tag_of m.platform.virt) m.platform.virt
 
 -- the hart's stop is the machine's
@@ -498,7 +498,7 @@ folding_renamed part pool m memory at folding address access =
     ∙ ap (λ layout. option_map (λ place. host_place layout.blocks (place - ram_base)) (second_by f.space.entries mxr address access)) at.own
     ∙ ap (λ (second : SecondStage). option_map (memory_place part.blocks) (second address access)) (sym f.second)
 
-view : (part : Layout) (pool : Pooled) (m : Machine) (memory : List ℕ) → IsAt part pool m memory
+pub view : (part : Layout) (pool : Pooled) (m : Machine) (memory : List ℕ) → IsAt part pool m memory
     → IsRenamed (memory_place part.blocks) (in_ram part.blocks) (second_of m) (reading_of (ram_memory m.ram))
     (second_of_memory (hart_state_in part (root_for part pool m.platform.virt) m.platform.virt) memory) (reading_of_memory memory)
 view part pool m memory at =

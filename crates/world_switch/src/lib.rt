@@ -5,4 +5,4 @@ mod laws;
 mod switching;
 
 pub use laws::{accesses_alike, instructions_alike, load_and_save, traps_alike};
-pub use switching::{fix_up, load, save, tag_of, to_guest_hs, to_nested};
+pub use switching::{fix_up, load, own_address, save, tag_of, to_guest_hs, to_nested};

@@ -167,8 +167,8 @@ fn guest_reservation(part: &Part, place: u64, bytes: u8) -> Option<(u64, u8)>
     Some((address, bytes))
 }
 
-// The guest physical address that these blocks have at a place in machine memory, if one of them has it.
-fn own_address(blocks: &[u32], place: u64) -> Option<u64>
+/// The guest physical address that these blocks have at a place in machine memory, if one of them has it.
+pub fn own_address(blocks: &[u32], place: u64) -> Option<u64>
     requires { length blocks.now ≤ 32 }
     ensures { result ≡ own_address blocks.now place }
 {

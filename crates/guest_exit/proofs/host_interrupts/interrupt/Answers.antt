@@ -10,10 +10,6 @@ use Rattle.guest_exit.proofs.Placed.{placed_by_step}
 use Rattle.hosted_steps.proofs.Taken.{entered_first}
 use Rattle.guest_exit.proofs.host_interrupts.interrupt.Goals as goal
 
--- where none is pending
-pub returns-then-is_none_pending-clause-which : goal.returns-then-is_none_pending-clause-which
-returns-then-is_none_pending-clause-which c = rw (c.is_none_pending.ensures c.if-is_none_pending.true c.args.guest.now.virt.mode) refl
-
 pub returns-then-is_hosts-clause-takes : goal.returns-then-is_hosts-clause-takes
 returns-then-is_hosts-clause-takes c = λ yes.
     let is = λ (memory : List ℕ). interrupted (machine_of c.args.guest.now memory) c.in-Some.code (rw c.pending.ensures at c.in-Some.is) in

@@ -1,7 +1,7 @@
 use Rattle.std.proofs.Common.{◌≡◌, ◌∙◌, true, false, refl, ap, sym}
 use Rattle.machine_defs.specs.Runs.{event_in, left_by}
 use Rattle.machine_defs.specs.Tries.{device_of, unplaced}
-use Rattle.hosted_steps.specs.ExitCases.{data_wanted, having_found}
+use Rattle.hosted_steps.specs.ExitCases.{data_wanted, found_next, having_found}
 use Rattle.guest_exit.specs.View.{machine_of}
 use Rattle.shadow_pool.specs.Slots.{spaces_of}
 use Rattle.shadow_pool.proofs.Filling.{filled_in_front, front_held}
@@ -10,16 +10,16 @@ use Rattle.guest_exit.proofs.miss.miss.Goals as goal
 
 pub key-key-requires : goal.key-key-requires
 key-key-requires c =
-    (folding_front c.args.guest.now c.args.memory.now c.args.access.now c.in-Some.entry c.requires.can.placed (sym c.entry_for.ensures.entry ∙ c.in-Some.is)).some
+    (folding_front c.args.guest.now c.args.memory.now c.args.access.now c.in-Some.entry c.requires.left.can.placed (sym c.entry_for.ensures.entry ∙ c.in-Some.is)).some
 
 pub fill-requires-clause-held : goal.fill-requires-clause-held
 fill-requires-clause-held c =
-    let front = folding_front c.args.guest.now c.args.memory.now c.args.access.now c.in-Some.entry c.requires.can.placed (sym c.entry_for.ensures.entry ∙ c.in-Some.is) in
+    let front = folding_front c.args.guest.now c.args.memory.now c.args.access.now c.in-Some.entry c.requires.left.can.placed (sym c.entry_for.ensures.entry ∙ c.in-Some.is) in
     rw c.key-key.ensures (front_held _ (spaces_of c.args.guest.now.pool) front.first)
 
 pub fill-requires-clause-entry : goal.fill-requires-clause-entry
 fill-requires-clause-entry c =
-    can_fill c.args.guest.now c.args.memory.now c.args.access.now c.in-Some.entry c.requires.can.placed (sym c.entry_for.ensures.entry ∙ c.in-Some.is)
+    can_fill c.args.guest.now c.args.memory.now c.args.access.now c.in-Some.entry c.requires.left.can.placed (sym c.entry_for.ensures.entry ∙ c.in-Some.is)
 
 pub returns-in-Some-clause-makes : goal.returns-in-Some-clause-makes
 returns-in-Some-clause-makes c = record {
@@ -27,10 +27,10 @@ returns-in-Some-clause-makes c = record {
   step = λ went. absurd (went refl);
   fill = λ retry.
       fill_made c.args.guest.now (record c.args.guest.now { pool = c.fill.new.self }) c.args.memory.now c.fill.new.mem c.args.access.now c.in-Some.entry
-      c.requires.can.placed (sym c.entry_for.ensures.entry ∙ c.in-Some.is)
+      c.requires.left.can.placed (sym c.entry_for.ensures.entry ∙ c.in-Some.is)
       refl refl (rw c.entry_for.ensures.stays at c.fill.ensures.keeps) refl
       (c.fill.ensures.spaces ∙ filled_in_front c.key-key.result c.args.guest.now.pool.most (spaces_of c.args.guest.now.pool) c.in-Some.entry
-      (rw c.key-key.ensures (folding_front c.args.guest.now c.args.memory.now c.args.access.now c.in-Some.entry c.requires.can.placed (sym c.entry_for.ensures.entry ∙ c.in-Some.is)).first));
+      (rw c.key-key.ensures (folding_front c.args.guest.now c.args.memory.now c.args.access.now c.in-Some.entry c.requires.left.can.placed (sym c.entry_for.ensures.entry ∙ c.in-Some.is)).first));
 }
 
 -- on the device page nothing is missing
@@ -41,7 +41,7 @@ returns-then-has_on_device-clause-makes c =
     let on : device_of m missing.address missing.kind ≡ true = sym (c.has_on_device.ensures c.args.memory.now) ∙ c.if-has_on_device.true in
     record {
       ready = λ went. none_on_device m missing on;
-      step = λ went. c.access_device.ensures.step c.args.memory.now ∙ ap (λ b. left_by m (unplaced (having_found c.args.found.now m) missing (data_wanted m) b)) (sym on);
+      step = λ went. c.access_device.ensures.step c.args.memory.now ∙ ap (λ b. left_by m (unplaced (having_found (found_next m) m) missing (data_wanted m) b)) (sym on);
       fill = λ retry. absurd (c.access_device.ensures.went retry);
     }
 
@@ -53,22 +53,22 @@ returns-in-None-clause-makes c =
     rw (c.raise_fault.ensures.stays, c.entry_for.ensures.stays) (record {
       ready = λ went. sym c.entry_for.ensures.entry ∙ c.in-None.is;
       step = λ went. (rw c.entry_for.ensures.stays at c.raise_fault.ensures.step c.args.memory.now)
-          ∙ ap (λ b. left_by m (unplaced (having_found c.args.found.now m) missing (data_wanted m) b)) (sym off);
+          ∙ ap (λ b. left_by m (unplaced (having_found (found_next m) m) missing (data_wanted m) b)) (sym off);
       fill = λ retry. absurd (c.raise_fault.ensures.went retry);
     })
 
 -- whatever the answer is
 pub returns-then-has_on_device-clause-quiet : goal.returns-then-has_on_device-clause-quiet
 returns-then-has_on_device-clause-quiet c =
-    let m = machine_of c.args.guest.now c.args.memory.now in unplaced_is_quiet (having_found c.args.found.now m) c.args.access.now (data_wanted m) (device_of m c.args.access.now.address c.args.access.now.kind)
+    let m = machine_of c.args.guest.now c.args.memory.now in unplaced_is_quiet (having_found (found_next m) m) c.args.access.now (data_wanted m) (device_of m c.args.access.now.address c.args.access.now.kind)
 
 pub returns-in-Some-clause-quiet : goal.returns-in-Some-clause-quiet
 returns-in-Some-clause-quiet c =
-    let m = machine_of c.args.guest.now c.args.memory.now in unplaced_is_quiet (having_found c.args.found.now m) c.args.access.now (data_wanted m) (device_of m c.args.access.now.address c.args.access.now.kind)
+    let m = machine_of c.args.guest.now c.args.memory.now in unplaced_is_quiet (having_found (found_next m) m) c.args.access.now (data_wanted m) (device_of m c.args.access.now.address c.args.access.now.kind)
 
 pub returns-in-None-clause-quiet : goal.returns-in-None-clause-quiet
 returns-in-None-clause-quiet c =
-    let m = machine_of c.args.guest.now c.args.memory.now in unplaced_is_quiet (having_found c.args.found.now m) c.args.access.now (data_wanted m) (device_of m c.args.access.now.address c.args.access.now.kind)
+    let m = machine_of c.args.guest.now c.args.memory.now in unplaced_is_quiet (having_found (found_next m) m) c.args.access.now (data_wanted m) (device_of m c.args.access.now.address c.args.access.now.kind)
 
 -- the event is that of what is made
 pub returns-then-has_on_device-clause-event : goal.returns-then-has_on_device-clause-event
@@ -76,7 +76,7 @@ returns-then-has_on_device-clause-event c = λ went.
     let m = machine_of c.args.guest.now c.args.memory.now in
     let missing = c.args.access.now in
     let on : device_of m missing.address missing.kind ≡ true = sym (c.has_on_device.ensures c.args.memory.now) ∙ c.if-has_on_device.true in
-    ap (λ b. event_in (unplaced (having_found c.args.found.now m) missing (data_wanted m) b)) on ∙ c.access_device.ensures.event c.args.memory.now
+    ap (λ b. event_in (unplaced (having_found (found_next m) m) missing (data_wanted m) b)) on ∙ c.access_device.ensures.event c.args.memory.now
 
 pub returns-in-Some-clause-event : goal.returns-in-Some-clause-event
 returns-in-Some-clause-event c = λ went. absurd (went refl)
@@ -86,5 +86,5 @@ returns-in-None-clause-event c = λ went.
     let m = machine_of c.args.guest.now c.args.memory.now in
     let missing = c.args.access.now in
     let off : device_of m missing.address missing.kind ≡ false = sym (c.has_on_device.ensures c.args.memory.now) ∙ c.if-has_on_device.false in
-    ap (λ b. event_in (unplaced (having_found c.args.found.now m) missing (data_wanted m) b)) off
+    ap (λ b. event_in (unplaced (having_found (found_next m) m) missing (data_wanted m) b)) off
     ∙ (rw c.entry_for.ensures.stays at c.raise_fault.ensures.event c.args.memory.now)
