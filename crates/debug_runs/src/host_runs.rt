@@ -58,8 +58,8 @@ fn needs_few_frames(source: &Source)
     let _frames = source.need().frames();
 }
 
-// A host of the guest of a source alone.
-fn booted(alloc: Global, source: Source) -> Result<Host, NoMemory>
+/// A host of the guest of a source alone.
+pub fn booted(alloc: Global, source: Source) -> Result<Host, NoMemory>
     requires { IsBootableSource source }
     ensures machines { IfOk result (λ host. host.machines ≡ machine_of_source source ∷ []) }
     ensures active { IfOk result (λ host. (g : ℕ) → is_set host.retired g ≡ false) }

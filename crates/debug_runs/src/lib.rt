@@ -3,4 +3,4 @@
 
 mod host_runs;
 
-pub use host_runs::HostRun;
+pub use host_runs::{HostRun, booted};

@@ -17,6 +17,7 @@ pub mod SavedRuns
 pub mod Shifting
 pub mod ShownBlocks
 pub mod SingleTries
+pub mod SpaceCounts
 pub mod Starting
 pub mod Steps
 pub mod Tries

@@ -5,15 +5,19 @@ ghost use Rattle.arch_defs.specs.Frames.{Only, most_frames, within};
 ghost use Rattle.arch_defs.specs.Layouts.{named_by};
 ghost use Rattle.arch_defs.specs.Memory.{ram_memory};
 ghost use Rattle.frame_split.specs.Shares.{IsSplit, blocks_of_all, frames_with};
+ghost use Rattle.guest_exit.specs.NextSteps.{access_next, word_next};
 ghost use Rattle.guest_save.specs.Forms.{form};
 ghost use Rattle.guest_save.specs.Savable.{IsSavable};
 ghost use Rattle.guest_settings.specs.declared.statuses.Status.TheVariants.{Running};
+ghost use Rattle.hlv_hsv.specs.Places.{hlv_place_in};
+ghost use Rattle.hosted_steps.specs.ExitCases.{found_next};
 ghost use Rattle.machine_defs.specs.Fills.{needed};
 ghost use Rattle.machine_defs.specs.Lookups.{looked_up};
 ghost use Rattle.machine_defs.specs.Machine.{start, with_pending_lines};
 ghost use Rattle.machine_defs.specs.Runs.{run};
 ghost use Rattle.outside.specs.Faults.{Rose};
 ghost use Rattle.outside.specs.Pieces.{Puts};
+ghost use Rattle.rv64_hart.specs.Leaves.{LeavesFit, leaves_list};
 ghost use Rattle.guest_turns.specs.Account.{Accounted, CountsTry, HasRoomForTurn};
 ghost use Rattle.guest_turns.specs.Hosted.{count_set, is_set, lowest, machine_at, part_at, KeepsShares};
 ghost use Rattle.guest_turns.specs.Limits.{AreBootable, frames_for, needs_of};
@@ -24,7 +28,7 @@ ghost use Rattle.guest_turns.specs.Tries.{HasTried, events_made};
 ghost use Rattle.guest_turns.specs.TurnLists.{updated};
 ghost use Rattle.two_stage_walk.specs.Places.{IsPlaceOf};
 
-use crate::addresses::place_in;
+use crate::addresses::{hlv_place_in, place_in};
 use crate::booting::{guests_from, lay_out, share};
 use crate::free_blocks::FreeBlocks;
 use crate::memory_views::MemoryView;
@@ -39,9 +43,10 @@ use guest_save::put;
 use guest_settings::MOST_GUESTS;
 use machine_defs::{GuestSpec, Status};
 use no_memory::NoMemory;
+use op_defs::DataAccess;
 use outside::{Sink, SinkFault};
 use phys_mem::PhysMem;
-use rv64_hart::{Hart, Tally};
+use rv64_hart::{Hart, Leaves, Tally};
 use std::alloc::Global;
 use std::marker::Model;
 
@@ -210,7 +215,7 @@ impl Host {
     }
 
     /// Makes one try of the next step of the machine of a guest that has not retired and goes on. A try fills
-    /// a cached translation that the step lacks, or is the last: it makes the step, and answers what that was,
+    /// a cached translation that the step lacks, or is the last: it makes the step, and answers what it was,
     /// or the step waits for good. All other machines stay as they were, and no byte outside the guest's part
     /// changes. The tally gets the account of the hart.
     pub fn make_try(&mut self, g: u32, tally: &mut Tally) -> Made
@@ -231,6 +236,50 @@ impl Host {
     {
         let guest = &mut self.guests[g as usize];
         try_of(guest, &mut self.hart, &mut self.memory, tally)
+    }
+
+    /// The word of the instruction that the next step of the machine of a guest that has not retired makes.
+    /// None where an interrupt is due, and where the fetch has no place in RAM.
+    pub fn word_next(&self, g: u32) -> Option<u32>
+        requires guest { g < length self.now.machines }
+        requires active { is_set self.now.retired g ≡ false }
+        ensures { result ≡ word_next (machine_at self.now.machines g) }
+    {
+        self.view(g).word_next()
+    }
+
+    /// The first-stage translations that the next step of the machine of a guest that has not retired finds.
+    pub fn found_next(&self, g: u32) -> Leaves
+        requires guest { g < length self.now.machines }
+        requires active { is_set self.now.retired g ≡ false }
+        ensures value { leaves_list result ≡ found_next (machine_at self.now.machines g) }
+        ensures fits { LeavesFit result }
+    {
+        self.view(g).found_next()
+    }
+
+    /// The access to data that the next instruction of the machine of a guest that has not retired makes in
+    /// its own mode, and its place in RAM. None where an interrupt is due, and where there is no such access
+    /// or place.
+    pub fn access_next(&self, g: u32) -> Option<(DataAccess, u64)>
+        requires guest { g < length self.now.machines }
+        requires active { is_set self.now.retired g ≡ false }
+        ensures { result ≡ access_next (machine_at self.now.machines g) }
+    {
+        self.view(g).access_next()
+    }
+
+    /// The place in RAM of the access of an HLV, HLVX or HSV of a guest that has not retired, by the walks
+    /// that it is made by, if it has one there. Nothing changes.
+    pub fn hlv_place(&mut self, g: u32, wanted: &DataAccess) -> Option<u64>
+        requires guest { g < length self.old.machines }
+        requires active { is_set self.old.retired g ≡ false }
+        ensures place { result ≡ hlv_place_in (ram_memory (machine_at self.old.machines g).ram)
+            (machine_at self.old.machines g).platform.virt.csrs wanted.now }
+        ensures stays { self.new ≡ self.old }
+    {
+        let guest = &self.guests[g as usize];
+        hlv_place_in(&mut self.memory, guest, wanted)
     }
 
     /// Appends the form of the machine of a guest that has not retired.
@@ -367,5 +416,13 @@ impl Host {
         ensures { result.now ≡ (machine_at self.now.machines g).platform.console.bytes }
     {
         self.guests[g as usize].console.bytes()
+    }
+
+    /// The inputs that a guest has not read.
+    pub fn inputs(&self, g: u32) -> &[(u64, u8)]
+        requires { g < length self.now.machines }
+        ensures { result.now ≡ (machine_at self.now.machines g).platform.console.inputs }
+    {
+        self.guests[g as usize].console.unread()
     }
 }

@@ -1,17 +1,23 @@
 // A guest in machine memory, as a machine that can be written.
 
-ghost use Rattle.std.specs.Prelude.{◌≡◌, ◌*◌, ◌<◌, length, slice_index};
+ghost use Rattle.std.specs.Prelude.{◌≡◌, ◌*◌, ◌^◌, ◌<◌, ◌≤◌, length, slice_index};
+ghost use Rattle.std.specs.List.{sum_by};
 ghost use Rattle.arch_defs.specs.Memory.{block_size};
+ghost use Rattle.guest_exit.specs.NextSteps.{access_next, word_next};
 ghost use Rattle.guest_exit.specs.View.{machine_of};
 ghost use Rattle.guest_save.specs.Headers.{blocks_of};
 ghost use Rattle.guest_save.specs.Savable.{IsSavable};
 ghost use Rattle.guest_turns.specs.Hosting.{IsHosted};
 ghost use Rattle.guest_turns.specs.Saving.{MayBeSaved};
+ghost use Rattle.hosted_steps.specs.ExitCases.{found_next};
+ghost use Rattle.rv64_hart.specs.Leaves.{LeavesFit, leaves_list};
 
 use arch_defs::{Entry, FirstBuffer, FirstEntry, GuestRoot};
-use guest_exit::Guest;
+use guest_exit::{Guest, access_next, found_next, word_next};
 use guest_save::{Header, Snapshot, numbers_fit};
+use op_defs::DataAccess;
 use phys_mem::{BLOCK_SIZE, PhysMem};
+use rv64_hart::Leaves;
 use std::marker::Model;
 
 /// A guest with the memory that it is in, which contracts see as its lone machine.
@@ -42,6 +48,29 @@ impl<'a> MemoryView<'a> {
         MemoryView { guest, memory }
     }
 
+    /// The word of the instruction that its next step makes, if that has one.
+    pub fn word_next(&self) -> Option<u32>
+        ensures { result ≡ word_next self.now }
+    {
+        word_next(self.guest, self.memory)
+    }
+
+    /// The first-stage translations that its next step finds.
+    pub fn found_next(&self) -> Leaves
+        ensures value { leaves_list result ≡ found_next self.now }
+        ensures fits { LeavesFit result }
+    {
+        found_next(self.guest, self.memory)
+    }
+
+    /// The access to data that its next instruction makes in its own mode, and its place in RAM, if there is
+    /// one.
+    pub fn access_next(&self) -> Option<(DataAccess, u64)>
+        ensures { result ≡ access_next self.now }
+    {
+        access_next(self.guest, self.memory)
+    }
+
     /// The machine can be saved, where it has what a host does not keep of it.
     pub fn can_be_saved(&self)
         ensures { MayBeSaved self.now → IsSavable self.now }
@@ -50,6 +79,26 @@ impl<'a> MemoryView<'a> {
         let console = &self.guest.console;
         let _put = console.bytes();
         let _unread = console.unread();
+    }
+
+    /// How many translations of the second stage it has cached.
+    #[tactic(auto, using(crate::proofs::SpaceCounts::all_counted))]
+    pub fn second_count(&self) -> u64
+        ensures { result ≡ sum_by (λ space. length space.entries) self.now.spaces }
+    {
+        self.has_few_cached();
+        let mut count = 0;
+        for space in 0..self.held() {
+            count += self.len(space);
+        }
+        count
+    }
+
+    // They are few.
+    fn has_few_cached(&self)
+        ensures { sum_by (λ space. length space.entries) self.now.spaces ≤ 2 ^ 24 }
+    {
+        let _ = &self.guest;
     }
 
     /// The byte at an offset into its RAM.

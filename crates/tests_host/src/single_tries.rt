@@ -1,11 +1,11 @@
-// Single tries of a guest's steps.
+// Single tries of a guest's steps, and what each is about to do.
 
 use crate::turns::guests;
-use arch_defs::Level;
+use arch_defs::{Level, Width};
 use guest_turns::{Host, Made};
 use machine_defs::{Event, Status};
 use no_memory::NoMemory;
-use rv64_hart::Tally;
+use rv64_hart::{Leaves, Tally};
 use std::alloc::Global;
 use std::test::Fail;
 
@@ -54,85 +54,180 @@ const TRAP_INTO_HS: Made = Made::Stepped(Event::Trap {
     interrupt: false,
 });
 
-// What each try makes.
-static TRIES: [Made; 28] = [
-    Made::Stepped(Event::Plain {
-        pc: 0x80000000,
-        word: 0x00004297,
-    }),
-    Made::Stepped(Event::Plain {
-        pc: 0x80000004,
-        word: 0x20000337,
-    }),
-    Made::Stepped(Event::Plain {
-        pc: 0x80000008,
-        word: 0x0DF30313,
-    }),
-    Made::Stepped(Event::Plain {
-        pc: 0x8000000C,
-        word: 0x0062B823,
-    }),
-    Made::Stepped(Event::Plain {
-        pc: 0x80000010,
-        word: 0x00800393,
-    }),
-    Made::Stepped(Event::Plain {
-        pc: 0x80000014,
-        word: 0x03C39393,
-    }),
-    Made::Stepped(Event::Plain {
-        pc: 0x80000018,
-        word: 0x00080437,
-    }),
-    Made::Stepped(Event::Plain {
-        pc: 0x8000001C,
-        word: 0x00440413,
-    }),
-    Made::Stepped(Event::Plain {
-        pc: 0x80000020,
-        word: 0x0083E3B3,
-    }),
-    SYSTEM,
-    SYSTEM,
-    Made::Stepped(Event::Plain {
-        pc: 0x8000002C,
-        word: 0x18000493,
-    }),
-    SYSTEM,
-    Made::Stepped(Event::Plain {
-        pc: 0x80000034,
-        word: 0x10000493,
-    }),
-    SYSTEM,
-    Made::Stepped(Event::Plain {
-        pc: 0x8000003C,
-        word: 0x00000517,
-    }),
-    Made::Stepped(Event::Plain {
-        pc: 0x80000040,
-        word: 0x02050593,
-    }),
-    SYSTEM,
-    Made::Stepped(Event::Plain {
-        pc: 0x80000048,
-        word: 0x02850593,
-    }),
-    SYSTEM,
-    Made::Stepped(Event::Plain {
-        pc: 0x80000050,
-        word: 0x02C50593,
-    }),
-    SYSTEM,
-    SYSTEM,
-    Made::Filled,
-    Made::Stepped(Event::Plain {
-        pc: 0x8000005C,
-        word: 0x00100613,
-    }),
-    TRAP_INTO_VS,
-    TRAP_INTO_HS,
-    Made::Waits,
+// The word that a try is about to make, if its fetch has a place, and what it makes.
+#[derive(Clone, Copy)]
+struct Try {
+    word: Option<u32>,
+    made: Made,
+}
+
+static TRIES: [Try; 28] = [
+    Try {
+        word: Some(0x00004297),
+        made: Made::Stepped(Event::Plain {
+            pc: 0x80000000,
+            word: 0x00004297,
+        }),
+    },
+    Try {
+        word: Some(0x20000337),
+        made: Made::Stepped(Event::Plain {
+            pc: 0x80000004,
+            word: 0x20000337,
+        }),
+    },
+    Try {
+        word: Some(0x0DF30313),
+        made: Made::Stepped(Event::Plain {
+            pc: 0x80000008,
+            word: 0x0DF30313,
+        }),
+    },
+    Try {
+        word: Some(0x0062B823),
+        made: Made::Stepped(Event::Plain {
+            pc: 0x8000000C,
+            word: 0x0062B823,
+        }),
+    },
+    Try {
+        word: Some(0x00800393),
+        made: Made::Stepped(Event::Plain {
+            pc: 0x80000010,
+            word: 0x00800393,
+        }),
+    },
+    Try {
+        word: Some(0x03C39393),
+        made: Made::Stepped(Event::Plain {
+            pc: 0x80000014,
+            word: 0x03C39393,
+        }),
+    },
+    Try {
+        word: Some(0x00080437),
+        made: Made::Stepped(Event::Plain {
+            pc: 0x80000018,
+            word: 0x00080437,
+        }),
+    },
+    Try {
+        word: Some(0x00440413),
+        made: Made::Stepped(Event::Plain {
+            pc: 0x8000001C,
+            word: 0x00440413,
+        }),
+    },
+    Try {
+        word: Some(0x0083E3B3),
+        made: Made::Stepped(Event::Plain {
+            pc: 0x80000020,
+            word: 0x0083E3B3,
+        }),
+    },
+    Try {
+        word: Some(0x68039073),
+        made: SYSTEM,
+    },
+    Try {
+        word: Some(0x60245073),
+        made: SYSTEM,
+    },
+    Try {
+        word: Some(0x18000493),
+        made: Made::Stepped(Event::Plain {
+            pc: 0x8000002C,
+            word: 0x18000493,
+        }),
+    },
+    Try {
+        word: Some(0x6004A073),
+        made: SYSTEM,
+    },
+    Try {
+        word: Some(0x10000493),
+        made: Made::Stepped(Event::Plain {
+            pc: 0x80000034,
+            word: 0x10000493,
+        }),
+    },
+    Try {
+        word: Some(0x1004A073),
+        made: SYSTEM,
+    },
+    Try {
+        word: Some(0x00000517),
+        made: Made::Stepped(Event::Plain {
+            pc: 0x8000003C,
+            word: 0x00000517,
+        }),
+    },
+    Try {
+        word: Some(0x02050593),
+        made: Made::Stepped(Event::Plain {
+            pc: 0x80000040,
+            word: 0x02050593,
+        }),
+    },
+    Try {
+        word: Some(0x14159073),
+        made: SYSTEM,
+    },
+    Try {
+        word: Some(0x02850593),
+        made: Made::Stepped(Event::Plain {
+            pc: 0x80000048,
+            word: 0x02850593,
+        }),
+    },
+    Try {
+        word: Some(0x20559073),
+        made: SYSTEM,
+    },
+    Try {
+        word: Some(0x02C50593),
+        made: Made::Stepped(Event::Plain {
+            pc: 0x80000050,
+            word: 0x02C50593,
+        }),
+    },
+    Try {
+        word: Some(0x10559073),
+        made: SYSTEM,
+    },
+    Try {
+        word: Some(0x10200073),
+        made: SYSTEM,
+    },
+    Try {
+        word: None,
+        made: Made::Filled,
+    },
+    Try {
+        word: Some(0x00100613),
+        made: Made::Stepped(Event::Plain {
+            pc: 0x8000005C,
+            word: 0x00100613,
+        }),
+    },
+    Try {
+        word: Some(0x00100073),
+        made: TRAP_INTO_VS,
+    },
+    Try {
+        word: Some(0x00000000),
+        made: TRAP_INTO_HS,
+    },
+    Try {
+        word: Some(0x10500073),
+        made: Made::Waits,
+    },
 ];
+
+// The try that stores the leaf, and where. No other makes an access to data.
+const STORE: usize = 3;
+
+const PLACE: u64 = 0x8000_4010;
 
 // The host of a guest with this image.
 fn booted(alloc: Global) -> Result<Option<Host>, NoMemory> {
@@ -142,15 +237,47 @@ fn booted(alloc: Global) -> Result<Option<Host>, NoMemory> {
     }
 }
 
-// What the next try of the first guest makes, while it goes on.
-fn one(host: &mut Host, tally: &mut Tally) -> Option<Made> {
+// What a try is about to do: its word, what it finds of the first stage, and the address, the width and the
+// place of its access to data.
+#[derive(Clone, Copy, PartialEq, Eq)]
+struct Next {
+    word: Option<u32>,
+    found: Leaves,
+    access: Option<(u64, Width, u64)>,
+}
+
+// The guest has no table of the first stage.
+fn expected_next(number: usize, word: Option<u32>) -> Next {
+    let access = if number == STORE {
+        Some((PLACE, Width::Double, PLACE))
+    } else {
+        None
+    };
+    Next {
+        word,
+        found: Leaves::none(),
+        access,
+    }
+}
+
+// What the first guest is about to do, and makes of it, while it goes on.
+fn one(host: &mut Host, tally: &mut Tally) -> Option<(Next, Made)> {
     if host.count() == 0 || host.has_retired(0) || host.status(0) != Status::Running {
         return None;
     }
     if host.steps(0) > 1000 || tally.entries() > 1000 || tally.taken() > 1000 {
         return None;
     }
-    Some(host.make_try(0, tally))
+    let access = match host.access_next(0) {
+        Some((wanted, place)) => Some((wanted.address, wanted.width, place)),
+        None => None,
+    };
+    let next = Next {
+        word: host.word_next(0),
+        found: host.found_next(0),
+        access,
+    };
+    Some((next, host.make_try(0, tally)))
 }
 
 #[test]
@@ -160,8 +287,18 @@ fn single_tries(rt: HostRuntime) -> Result<(), Fail> {
         return Ok(());
     };
     let mut tally = Tally::new();
-    for (number, made) in TRIES.iter().enumerate() {
-        assert!(rt; one(&mut host, &mut tally) == Some(*made), "try {}", number);
+    for (number, expected) in TRIES.iter().enumerate() {
+        match one(&mut host, &mut tally) {
+            Some((next, made)) => {
+                assert!(rt;
+                    next == expected_next(number, expected.word),
+                    "the try {}",
+                    number
+                );
+                assert!(rt; made == expected.made, "what try {} makes", number);
+            }
+            None => assert!(rt; false, "try {} is not made", number),
+        }
     }
     assert!(rt; one(&mut host, &mut tally).is_none());
     Ok(())
