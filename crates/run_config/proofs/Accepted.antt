@@ -18,7 +18,8 @@ use Rattle.run_config.specs.declared.schedules.Schedule.TheVariants.{Listed, Rou
 use Rattle.run_config.specs.Accept.{accept, body_fault, configuration_fault, configuration_of, document_fault, document_of, format_in, guests_at, guests_in, head_fault, schedule_in, settings_in, spare_at, tree_of, unless_fault, weights_of}
 use Rattle.run_config.specs.Configurations.{Configuration, IsGuestWithin, IsTurnWithin, IsWithinLimits}
 use Rattle.run_config.specs.Guests.{guests_fault, settings_of}
-use Rattle.run_config.specs.Tables.{document_keys, document_table, integer_of}
+use Rattle.run_config.specs.declared.rows.Kind.TheVariants.{IntegerOf}
+use Rattle.run_config.specs.Tables.{document_keys, document_options, row}
 use Rattle.run_config.specs.Tests.{unless, out_of_range, wrong_among}
 use Rattle.run_config.specs.Turns.{listed_turns, quantum_and_rounds, schedule_at, schedule_fault, turns_of}
 use Rattle.run_config.specs.Values.{has_only, natural, number_within, pairs_within, passes_if, tables_of, value_at}
@@ -93,15 +94,15 @@ guests_in_few t there =
     let (gs, is) = is_some_value (guests_at t) there in
     rw is (guests_few t gs is)
 
-spare_within : (format : Format) (t : Members) → wrong_among None t (document_table format) ≡ None → spare_at format t ≤ 32
+spare_within : (format : Format) (t : Members) → wrong_among None t (document_options format) ≡ None → spare_at format t ≤ 32
 unfolding spare_at
 spare_within One t e = omega arith
 spare_within Two t e =
-    let (fits, _) = first_none (out_of_range None t (key.Spare, integer_of 0 32)) _ e in
+    let (fits, _) = first_none (out_of_range None t (row key.Spare (IntegerOf 0 32))) _ e in
     (optional_row 0 0 32 None t key.Spare (omega arith) (omega arith) fits).1
 
 -- guests without a fault, a schedule of that many guests, and spare blocks
-settled : (format : Format) (t : Members) (gs : List Members) (schedule : Schedule) → (1 ≤ length gs) × (length gs ≤ 16) → wrong_among None t (document_table format) ≡ None → guests_fault format [] gs ≡ None → schedule_at (length gs) t ≡ Some schedule → schedule_fault (weights_of (map (settings_of format) gs)) schedule ≡ None
+settled : (format : Format) (t : Members) (gs : List Members) (schedule : Schedule) → (1 ≤ length gs) × (length gs ≤ 16) → wrong_among None t (document_options format) ≡ None → guests_fault format [] gs ≡ None → schedule_at (length gs) t ≡ Some schedule → schedule_fault (weights_of (map (settings_of format) gs)) schedule ≡ None
     → IsWithinLimits (record { guests = map (settings_of format) gs; turns = turns_of (weights_of (map (settings_of format) gs)) schedule; spare = spare_at format t })
 settled format t gs schedule few fits guests is none =
     let count = length-map gs (settings_of format) in
@@ -119,7 +120,7 @@ settled format t gs schedule few fits guests is none =
     }
 
 -- the same of what is kept
-pub kept_within : (format : Format) (t : Members) (gs : List Members) (guests : List GuestSettings) (schedule : Schedule) (turns : List (ℕ × ℕ)) (spare count : ℕ) → 1 ≤ length guests → length guests ≤ 16 → wrong_among None t (document_table format) ≡ None → guests_fault format [] gs ≡ None → guests ≡ map (settings_of format) gs → count ≡ length guests → schedule_at count t ≡ Some schedule → schedule_fault (weights_of guests) schedule ≡ None → turns ≡ turns_of (weights_of guests) schedule → spare ≡ spare_at format t
+pub kept_within : (format : Format) (t : Members) (gs : List Members) (guests : List GuestSettings) (schedule : Schedule) (turns : List (ℕ × ℕ)) (spare count : ℕ) → 1 ≤ length guests → length guests ≤ 16 → wrong_among None t (document_options format) ≡ None → guests_fault format [] gs ≡ None → guests ≡ map (settings_of format) gs → count ≡ length guests → schedule_at count t ≡ Some schedule → schedule_fault (weights_of guests) schedule ≡ None → turns ≡ turns_of (weights_of guests) schedule → spare ≡ spare_at format t
     → IsWithinLimits (record { guests = guests; turns = turns; spare = spare })
 kept_within format t gs guests schedule turns spare count some few fits passed is_guests is_count is_schedule none is_turns is_spare =
     let same : length guests ≡ length gs = ap length is_guests ∙ length-map gs (settings_of format) in
@@ -139,7 +140,7 @@ document_within t none =
     let (_, after_head) = first_none (head_fault t) _ none in
     let (body, _) = first_none (body_fault t) _ after_head in
     let (there, after_range) = first_none (unless (is_some (guests_at t)) _) _ body in
-    let (fits, after_spare) = first_none (wrong_among None t (document_table (format_in t))) _ after_range in
+    let (fits, after_spare) = first_none (wrong_among None t (document_options (format_in t))) _ after_range in
     let (guests, after_guests) = first_none (guests_fault (format_in t) [] (guests_in t)) _ after_spare in
     let (turns, after_turns) = first_none (unless (is_some (schedule_at (length (guests_in t)) t)) _) _ after_guests in
     let (_, after_extra) = first_none (unless (has_only (document_keys (format_in t)) t) _) _ after_turns in

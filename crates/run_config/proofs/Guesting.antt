@@ -8,7 +8,7 @@ use Rattle.run_config.specs.declared.faults.ConfigFault.{ConfigFault}
 use Rattle.run_config.specs.declared.formats.Format.{Format}
 use Rattle.run_config.specs.declared.guests.GuestSettings.{GuestSettings}
 use Rattle.run_config.specs.declared.keys.ConfigKey.TheVariants as key
-use Rattle.run_config.specs.Guests.{guest_fault, guests_fault, settings_by, settings_of}
+use Rattle.run_config.specs.Guests.{absent_key, guest_fault, guest_tests, guests_fault, is_resumed, settings_by, settings_of, wrong_option, wrong_value}
 use Rattle.run_config.specs.Seen.{names_of, tables_seen}
 use Rattle.run_config.specs.Tests.{first_fault}
 use Rattle.run_config.specs.Values.{text_at}
@@ -67,3 +67,18 @@ all_settings format guests tables i past = rw (drop_all i tables past) (append-n
 pub ruleset names = (list_any_names)
 
 pub ruleset guests = (guest_passes, guest_fails, settings_more)
+
+-- which test of its rows refuses a guest
+pub absent_refuses : (format : Format) (names : List (List ℕ)) (table : Members) (f : ConfigFault) → absent_key (is_resumed format table) (length names) table ≡ Some f → guest_fault format names table ≡ Some f
+unfolding guest_fault guest_tests
+absent_refuses format names table f absent = rw absent refl
+
+pub wrong_refuses : (format : Format) (names : List (List ℕ)) (table : Members) (f : ConfigFault) → absent_key (is_resumed format table) (length names) table ≡ None
+    → wrong_value (is_resumed format table) (length names) table ≡ Some f → guest_fault format names table ≡ Some f
+unfolding guest_fault guest_tests
+wrong_refuses format names table f present wrong = rw (present, wrong) refl
+
+pub option_refuses : (format : Format) (names : List (List ℕ)) (table : Members) (f : ConfigFault) → absent_key (is_resumed format table) (length names) table ≡ None
+    → wrong_value (is_resumed format table) (length names) table ≡ None → wrong_option (is_resumed format table) format (length names) table ≡ Some f → guest_fault format names table ≡ Some f
+unfolding guest_fault guest_tests
+option_refuses format names table f present right wrong = rw (present, right, wrong) refl

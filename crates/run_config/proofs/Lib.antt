@@ -1,11 +1,11 @@
 pub mod Accepted
 pub mod Found
-pub mod GuestKeys
 pub mod Guesting
 pub mod Items
 pub mod Known
 pub mod Pairing
 pub mod Recording
+pub mod RowTests
 pub mod Tabling
 pub mod Texts
 pub mod Weighing

@@ -17,10 +17,13 @@ use Rattle.run_config.specs.declared.formats.Format.{Format}
 use Rattle.run_config.specs.declared.formats.Format.TheVariants.{One, Two}
 use Rattle.run_config.specs.declared.guests.InputSource.{InputSource}
 use Rattle.run_config.specs.declared.guests.InputSource.TheVariants.{Pairs, File}
-use Rattle.run_config.specs.Guests.{absent_key, wrong_value, wrong_option, guest_fault, guest_tests, guests_fault, has_inputs, input_at, inputs_in, is_new_name, is_resumed, optional_source, origin_of, rise_from, settings_by, settings_of, source_in, weight_at}
+use Rattle.run_config.specs.Guests.{absent_key, wrong_value, wrong_option, fresh_of, guest_fault, guest_tests, guests_fault, has_inputs, input_at, inputs_in, is_new_name, is_resumed, optional_source, origin_of, rise_from, settings_by, settings_of, source_in, weight_at}
 use Rattle.run_config.specs.Configurations.{AreByteInputs, IsGuestWithin, IsSourceWithin}
-use Rattle.run_config.specs.Tables.{Kind, any_text, text_of, integer_of}
-use Rattle.run_config.specs.Tests.{unless, first_fault, absent_fault, out_of_range, wrong_kind}
+use Rattle.run_config.specs.declared.rows.Kind.{Kind}
+use Rattle.run_config.specs.declared.rows.Kind.TheVariants.{Own, AnyText, TextOf, IntegerOf}
+use Rattle.run_config.specs.declared.rows.Row.{Row}
+use Rattle.run_config.specs.Tables.{fresh_table, resumed_table, row}
+use Rattle.run_config.specs.Tests.{unless, first_fault, absent_among, absent_fault, out_of_range, wrong_among, wrong_kind}
 use Rattle.run_config.specs.Values.{◌>>=◌, passes_if, has_length, is_name, is_of, natural, natural_at, natural_or, number_within, pair_within, pairs_within, text_at, text_within, two_items, value_at}
 use Rattle.run_config.proofs.Found.{number_found, text_found}
 
@@ -54,16 +57,16 @@ number_within-some low high value n e =
     subst (λ k. (low ≤ k) × (k ≤ high)) same (least, most))))
 
 -- a key that is there, with a value of its kind
-pub found_of_kind : (g i : Option ℕ) (t : Members) (k : ConfigKey) (kind : Kind) → absent_fault g t k ≡ None → out_of_range i t (k, kind) ≡ None → (value : Data) × (value_at k t ≡ Some value) × (is_of kind value ≡ true)
+pub found_of_kind : (g i : Option ℕ) (t : Members) (k : ConfigKey) (kind : Kind) → absent_fault g t k ≡ None → out_of_range i t (row k kind) ≡ None → (value : Data) × (value_at k t ≡ Some value) × (is_of kind value ≡ true)
 unfolding absent_fault out_of_range wrong_kind
 found_of_kind g i t k kind there fits =
     let (value, is) = is_some_value (value_at k t) (unless_none _ _ there) in
     (value, is, unless_none _ _ (rw is at fits))
 
-number_row : (g i : Option ℕ) (t : Members) (k : ConfigKey) (low high : ℕ) → absent_fault g t k ≡ None → out_of_range i t (k, integer_of low high) ≡ None → (low ≤ natural_at k t) × (natural_at k t ≤ high)
+number_row : (g i : Option ℕ) (t : Members) (k : ConfigKey) (low high : ℕ) → absent_fault g t k ≡ None → out_of_range i t (row k (IntegerOf low high)) ≡ None → (low ≤ natural_at k t) × (natural_at k t ≤ high)
 unfolding is_of
 number_row g i t k low high there fits =
-    let (value, is, of) = found_of_kind g i t k (integer_of low high) there fits in
+    let (value, is, of) = found_of_kind g i t k (IntegerOf low high) there fits in
     let (n, number) = is_some_value (number_within low high value) of in
     rw (← number_found 0 k t low high value n is number) (number_within-some low high value n number)
 
@@ -75,12 +78,37 @@ or_false : {A : Type 0} (test : A → Bool) (o : Option A) → option_map_or tes
 or_false test None e = cc
 or_false test (Some x) e = (x, refl, e)
 
-text_row : (g i : Option ℕ) (t : Members) (k : ConfigKey) (low high : ℕ) → absent_fault g t k ≡ None → out_of_range i t (k, text_of low high) ≡ None → (low ≤ length (text_at k t)) × (length (text_at k t) ≤ high)
+text_row : (g i : Option ℕ) (t : Members) (k : ConfigKey) (low high : ℕ) → absent_fault g t k ≡ None → out_of_range i t (row k (TextOf low high)) ≡ None → (low ≤ length (text_at k t)) × (length (text_at k t) ≤ high)
 unfolding is_of
 text_row g i t k low high there fits =
-    let (value, is, of) = found_of_kind g i t k (text_of low high) there fits in
+    let (value, is, of) = found_of_kind g i t k (TextOf low high) there fits in
     let (text, is_text, long) = or_false (has_length low high) (as_str value) of in
     rw (← text_found k t value text is is_text) (has_length-true low high text long)
+
+-- what a row says of the value at its key
+abbrev fits_as : Kind → ConfigKey → Members → Type 0
+fits_as Own k t = Unit {0}
+fits_as AnyText k t = Unit {0}
+fits_as (TextOf low high) k t = (low ≤ length (text_at k t)) × (length (text_at k t) ≤ high)
+fits_as (IntegerOf low high) k t = (low ≤ natural_at k t) × (natural_at k t ≤ high)
+
+abbrev all_fit : List Row → Members → Type 0
+all_fit [] t = Unit {0}
+all_fit (r ∷ rows) t = fits_as r.kind r.key t × all_fit rows t
+
+row_fits : (g i : Option ℕ) (t : Members) (k : ConfigKey) (kind : Kind) → absent_fault g t k ≡ None → out_of_range i t (row k kind) ≡ None → fits_as kind k t
+row_fits g i t k Own there fits = tt
+row_fits g i t k AnyText there fits = tt
+row_fits g i t k (TextOf low high) there fits = text_row g i t k low high there fits
+row_fits g i t k (IntegerOf low high) there fits = number_row g i t k low high there fits
+
+-- a table that has the keys of rows, each with a value of its kind
+rows_fit : (g i : Option ℕ) (t : Members) (rows : List Row) → absent_among g t rows ≡ None → wrong_among i t rows ≡ None → all_fit rows t
+rows_fit g i t [] absent wrong = tt
+rows_fit g i t (r ∷ rows) absent wrong =
+    let (there, absent) = first_none (absent_fault g t r.key) _ absent in
+    let (fits, wrong) = first_none (out_of_range i t r) _ wrong in
+    (row_fits g i t r.key r.kind there fits, rows_fit g i t rows absent wrong)
 
 name-within : (names : List (List ℕ)) (name : List ℕ) → is_new_name names name ≡ true → (1 ≤ length name) × (length name ≤ 32)
 unfolding is_new_name is_name
@@ -192,27 +220,27 @@ source_within format t e =
     rw is (optional_fits format (value_at key.Input t) source is)
 
 -- a number that need not be there
-pub optional_row : (absent low high : ℕ) (i : Option ℕ) (t : Members) (k : ConfigKey) → low ≤ absent → absent ≤ high → out_of_range i t (k, integer_of low high) ≡ None → (low ≤ natural_or absent k t) × (natural_or absent k t ≤ high)
+pub optional_row : (absent low high : ℕ) (i : Option ℕ) (t : Members) (k : ConfigKey) → low ≤ absent → absent ≤ high → out_of_range i t (row k (IntegerOf low high)) ≡ None → (low ≤ natural_or absent k t) × (natural_or absent k t ≤ high)
 unfolding out_of_range wrong_kind is_of natural_or
 optional_row absent low high i t k least most fits = by_value (value_at k t) refl fits
   where
-    by_value : (o : Option Data) → value_at k t ≡ o → (o >>= wrong_kind i (k, integer_of low high)) ≡ None → (low ≤ natural_or absent k t) × (natural_or absent k t ≤ high)
+    by_value : (o : Option Data) → value_at k t ≡ o → (o >>= wrong_kind i (row k (IntegerOf low high))) ≡ None → (low ≤ natural_or absent k t) × (natural_or absent k t ≤ high)
     by_value None is fits = rw is (least, most)
     by_value (Some value) is fits =
         let (n, number) = is_some_value (number_within low high value) (unless_none _ _ fits) in
         rw (← number_found absent k t low high value n is number) (number_within-some low high value n number)
 
-weight_row : (n : ℕ) (t : Members) → out_of_range (Some n) t (key.Weight, integer_of 1 1000) ≡ None → (1 ≤ natural_or 1 key.Weight t) × (natural_or 1 key.Weight t ≤ 1000)
+weight_row : (n : ℕ) (t : Members) → out_of_range (Some n) t (row key.Weight (IntegerOf 1 1000)) ≡ None → (1 ≤ natural_or 1 key.Weight t) × (natural_or 1 key.Weight t ≤ 1000)
 weight_row n t fits = optional_row 1 1 1000 (Some n) t key.Weight (omega arith) (omega arith) fits
 
 weight_within : (resumed : Bool) (format : Format) (n : ℕ) (t : Members) → wrong_option resumed format n t ≡ None → (1 ≤ weight_at format t) × (weight_at format t ≤ 1000)
 unfolding wrong_option weight_at
 weight_within resumed One n t e = (omega arith, omega arith)
-weight_within true Two n t e = weight_row n t (first_none (out_of_range (Some n) t (key.Weight, integer_of 1 1000)) _ e).0
-weight_within false Two n t e = weight_row n t (first_none (out_of_range (Some n) t (key.Weight, integer_of 1 1000)) _ e).0
+weight_within true Two n t e = weight_row n t (first_none (out_of_range (Some n) t (row key.Weight (IntegerOf 1 1000))) _ e).0
+weight_within false Two n t e = weight_row n t (first_none (out_of_range (Some n) t (row key.Weight (IntegerOf 1 1000))) _ e).0
 
 fresh_within : (format : Format) (names : List (List ℕ)) (t : Members) → first_fault (guest_tests false format names t) ≡ None → IsGuestWithin (settings_by false format t)
-unfolding guest_tests absent_key wrong_value has_inputs settings_by origin_of
+unfolding guest_tests absent_key wrong_value has_inputs settings_by origin_of fresh_of
 fresh_within format names t e =
     let n = length names in
     let (absent, e) = first_none (absent_key false n t) _ e in
@@ -220,24 +248,13 @@ fresh_within format names t e =
     let (option, e) = first_none (wrong_option false format n t) _ e in
     let (named, e) = first_none (unless (is_new_name names (text_at key.Name t)) _) _ e in
     let (input, e) = first_none (unless (is_some (input_at format t)) _) _ e in
-    let (a-name, r) = first_none (absent_fault (Some n) t key.Name) _ absent in
-    let (a-image, r) = first_none (absent_fault (Some n) t key.Image) _ r in
-    let (a-blocks, r) = first_none (absent_fault (Some n) t key.Blocks) _ r in
-    let (a-spaces, r) = first_none (absent_fault (Some n) t key.Spaces) _ r in
-    let (a-entries, r) = first_none (absent_fault (Some n) t key.Entries) _ r in
-    let (a-console, r) = first_none (absent_fault (Some n) t key.Console) _ r in
-    let (w-name, w) = first_none (out_of_range (Some n) t (key.Name, any_text)) _ wrong in
-    let (w-image, w) = first_none (out_of_range (Some n) t (key.Image, text_of 1 255)) _ w in
-    let (w-blocks, w) = first_none (out_of_range (Some n) t (key.Blocks, integer_of 1 32)) _ w in
-    let (w-spaces, w) = first_none (out_of_range (Some n) t (key.Spaces, integer_of 1 8)) _ w in
-    let (w-entries, w) = first_none (out_of_range (Some n) t (key.Entries, integer_of 16 256)) _ w in
-    let (w-console, w) = first_none (out_of_range (Some n) t (key.Console, integer_of 0 1048576)) _ w in
+    let (_, fits) = rows_fit (Some n) (Some n) t fresh_table absent wrong in
+    let (image, fits) = fits in
+    let (blocks, fits) = fits in
+    let (spaces, fits) = fits in
+    let (entries, fits) = fits in
+    let (console, fits) = fits in
     let name = name-within names (text_at key.Name t) (unless_none _ _ named) in
-    let image = text_row (Some n) (Some n) t key.Image 1 255 a-image w-image in
-    let blocks = number_row (Some n) (Some n) t key.Blocks 1 32 a-blocks w-blocks in
-    let spaces = number_row (Some n) (Some n) t key.Spaces 1 8 a-spaces w-spaces in
-    let entries = number_row (Some n) (Some n) t key.Entries 16 256 a-entries w-entries in
-    let console = number_row (Some n) (Some n) t key.Console 0 1048576 a-console w-console in
     let weight = weight_within false format n t option in
     record {
       name_some = name.0;
@@ -267,10 +284,7 @@ resumed_within format names t e =
     let (wrong, e) = first_none (wrong_value true n t) _ e in
     let (option, e) = first_none (wrong_option true format n t) _ e in
     let (named, e) = first_none (unless (is_new_name names (text_at key.Name t)) _) _ e in
-    let (a-name, r) = first_none (absent_fault (Some n) t key.Name) _ absent in
-    let (a-resume, r) = first_none (absent_fault (Some n) t key.Resume) _ r in
-    let (w-name, w) = first_none (out_of_range (Some n) t (key.Name, any_text)) _ wrong in
-    let (w-resume, w) = first_none (out_of_range (Some n) t (key.Resume, text_of 1 255)) _ w in
+    let (_, fits) = rows_fit (Some n) (Some n) t resumed_table absent wrong in
     let name = name-within names (text_at key.Name t) (unless_none _ _ named) in
     let weight = weight_within true format n t option in
     record {
@@ -278,7 +292,7 @@ resumed_within format names t e =
       name_most = name.1;
       weight_some = weight.0;
       weight_most = weight.1;
-      origin = text_row (Some n) (Some n) t key.Resume 1 255 a-resume w-resume;
+      origin = fits.0;
     }
 
 pub guest_within : (format : Format) (names : List (List ℕ)) (t : Members) → guest_fault format names t ≡ None → IsGuestWithin (settings_of format t)

@@ -13,7 +13,7 @@ use Rattle.run_config.specs.declared.guests.GuestSettings.{GuestSettings}
 use Rattle.run_config.specs.declared.schedules.Schedule.{Schedule}
 use Rattle.run_config.specs.Configurations.{Configuration, IsWithinLimits}
 use Rattle.run_config.specs.Guests.{guests_fault, settings_of}
-use Rattle.run_config.specs.Tables.{document_table, document_keys}
+use Rattle.run_config.specs.Tables.{document_options, document_keys}
 use Rattle.run_config.specs.Tests.{unless, first_fault, absent_fault, wrong_among}
 use Rattle.run_config.specs.Turns.{schedule_at, schedule_fault, turns_of}
 use Rattle.run_config.specs.Values.{◌>>=◌, passes_if, value_at, natural, natural_at, has_only, tables_of}
@@ -85,7 +85,7 @@ head_fault document =
 unfoldable pub body_fault : Members → Option ConfigFault
 body_fault document = first_fault (
     unless (is_some (guests_at document)) (fault.range None key.Guest (array_length document))
-    ∷ wrong_among None document (document_table (format_in document))
+    ∷ wrong_among None document (document_options (format_in document))
     ∷ guests_fault (format_in document) [] (guests_in document)
     ∷ unless (is_some (schedule_in document)) fault.turns
     ∷ unless (has_only (document_keys (format_in document)) document) (fault.extra None)

@@ -1,5 +1,5 @@
 -- The tests of the guests, and their settings.
-use Rattle.std.specs.Prelude.{ℕ, ◌^◌, ◌-◌, nat_eq, nat_le, Bool, true, false, not, ◌&&◌, List, [], ◌∷◌, ◌++◌, length, map, bytes_eq, Option, Some, None, is_some, unwrap_or, option_map}
+use Rattle.std.specs.Prelude.{ℕ, ◌^◌, ◌-◌, nat_eq, nat_le, Bool, true, false, not, ◌&&◌, List, [], ◌∷◌, ◌++◌, length, bytes_eq, Option, Some, None, is_some, unwrap_or, option_map}
 use Rattle.std.specs.List.{list_any}
 use Rattle.toml.specs.Data.{Data, Members, as_array}
 use Rattle.guest_settings.specs.Limits.{most_inputs}
@@ -8,13 +8,14 @@ use Rattle.run_config.specs.declared.faults.ConfigFault.{ConfigFault}
 use Rattle.run_config.specs.Faults as fault
 use Rattle.run_config.specs.declared.formats.Format.{Format}
 use Rattle.run_config.specs.declared.formats.Format.TheVariants.{One, Two}
+use Rattle.run_config.specs.declared.guests.FreshGuest.{FreshGuest}
 use Rattle.run_config.specs.declared.guests.GuestSettings.{GuestSettings}
 use Rattle.run_config.specs.declared.guests.InputSource.{InputSource}
 use Rattle.run_config.specs.declared.guests.InputSource.TheVariants.{Pairs, File}
 use Rattle.run_config.specs.declared.guests.Origin.{Origin}
 use Rattle.run_config.specs.declared.guests.Origin.TheVariants.{Fresh, Saved}
 use Rattle.run_config.specs.Tables.{guest_table, optional_table, guest_keys}
-use Rattle.run_config.specs.Tests.{unless, first_fault, absent_fault, wrong_among}
+use Rattle.run_config.specs.Tests.{unless, first_fault, absent_among, wrong_among}
 use Rattle.run_config.specs.Values.{◌>>=◌, passes_if, value_at, text_at, text_within, natural_at, natural_or, is_name, has_only, pairs_within}
 
 -- the first number of each pair is at least that of the pair before, and that of the first pair at least this
@@ -69,8 +70,7 @@ is_new_name names name = is_name name && not (list_any (bytes_eq name) names)
 
 -- the fault of the first key that is absent, in the order of the table
 unfoldable pub absent_key : Bool → ℕ → Members → Option ConfigFault
-absent_key resumed number guest =
-    first_fault (map (λ row. absent_fault (Some number) guest row.0) (guest_table resumed))
+absent_key resumed number guest = absent_among (Some number) guest (guest_table resumed)
 
 -- the fault of the first value that is not of its kind: of the keys that a guest must have, and of those that
 -- it may have after them
@@ -103,18 +103,22 @@ guests_fault format names (guest ∷ rest) = first_fault (
     ∷ guests_fault format (names ++ text_at key.Name guest ∷ []) rest
     ∷ [])
 
--- how a guest begins that has no fault, by whether it is resumed
-unfoldable pub origin_of : Bool → Format → Members → Origin
-origin_of true format guest = Saved (text_at key.Resume guest)
-origin_of false format guest = Fresh (record {
+-- what the table of a fresh guest that has no fault says, whose inputs come from there
+unfoldable pub fresh_of : Format → InputSource → Members → FreshGuest
+fresh_of format input guest = record {
   image = text_at key.Image guest;
   blocks = natural_at key.Blocks guest;
   spaces = natural_at key.Spaces guest;
   entries = natural_at key.Entries guest;
   console = natural_at key.Console guest;
   device = device_at format guest;
-  input = unwrap_or (input_at format guest) (Pairs []);
-})
+  input = input;
+}
+
+-- how a guest begins that has no fault, by whether it is resumed
+unfoldable pub origin_of : Bool → Format → Members → Origin
+origin_of true format guest = Saved (text_at key.Resume guest)
+origin_of false format guest = Fresh (fresh_of format (unwrap_or (input_at format guest) (Pairs [])) guest)
 
 -- the settings of a guest that has no fault, by whether it is resumed
 unfoldable pub settings_by : Bool → Format → Members → GuestSettings

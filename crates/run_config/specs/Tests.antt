@@ -4,7 +4,7 @@ use Rattle.toml.specs.Data.{Data, Members, as_integer}
 use Rattle.run_config.specs.declared.keys.ConfigKey.{ConfigKey}
 use Rattle.run_config.specs.declared.faults.ConfigFault.{ConfigFault}
 use Rattle.run_config.specs.Faults as fault
-use Rattle.run_config.specs.Tables.{Kind}
+use Rattle.run_config.specs.declared.rows.Row.{Row}
 use Rattle.run_config.specs.Values.{◌>>=◌, value_at, is_of}
 
 -- the fault, unless the test is passed
@@ -23,13 +23,17 @@ unfoldable pub absent_fault : Option ℕ → Members → ConfigKey → Option Co
 absent_fault guest table key = unless (is_some (value_at key table)) (fault.missing guest key)
 
 -- a value must be of the kind that its row of the table says
-unfoldable pub wrong_kind : Option ℕ → ConfigKey × Kind → Data → Option ConfigFault
-wrong_kind guest row value = unless (is_of row.1 value) (fault.range guest row.0 (as_integer value))
+unfoldable pub wrong_kind : Option ℕ → Row → Data → Option ConfigFault
+wrong_kind guest row value = unless (is_of row.kind value) (fault.range guest row.key (as_integer value))
 
 -- the same of the value at the key of a row, where there is one
-unfoldable pub out_of_range : Option ℕ → Members → ConfigKey × Kind → Option ConfigFault
-out_of_range guest table row = value_at row.0 table >>= wrong_kind guest row
+unfoldable pub out_of_range : Option ℕ → Members → Row → Option ConfigFault
+out_of_range guest table row = value_at row.key table >>= wrong_kind guest row
+
+-- the fault of the first key of these rows that is absent
+abbrev pub absent_among : Option ℕ → Members → List Row → Option ConfigFault
+absent_among guest table rows = first_fault (map (λ row. absent_fault guest table row.key) rows)
 
 -- the fault of the first value of these rows that is not of its kind
-abbrev pub wrong_among : Option ℕ → Members → List (ConfigKey × Kind) → Option ConfigFault
+abbrev pub wrong_among : Option ℕ → Members → List Row → Option ConfigFault
 wrong_among guest table rows = first_fault (map (out_of_range guest table) rows)

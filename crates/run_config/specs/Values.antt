@@ -8,7 +8,8 @@ use Rattle.toml.specs.Data.{Data, Items, no_items, item, Members, no_members, me
 use Rattle.toml.specs.Data.{get_member, as_integer, as_str, as_array, as_table}
 use Rattle.run_config.specs.declared.keys.ConfigKey.{ConfigKey}
 use Rattle.run_config.specs.Keys.{name_of}
-use Rattle.run_config.specs.Tables.{Kind, any_text, text_of, integer_of}
+use Rattle.run_config.specs.declared.rows.Kind.{Kind}
+use Rattle.run_config.specs.declared.rows.Kind.TheVariants.{Own, AnyText, TextOf, IntegerOf}
 
 -- the next step, where the one before it found a value
 infixl 10 ◌>>=◌
@@ -41,11 +42,12 @@ number_within low high value = do
 unfoldable pub has_length : ℕ → ℕ → List ℕ → Bool
 has_length low high text = nat_le low (length text) && nat_le (length text) high
 
--- whether a value is of a kind
+-- whether a value is of a kind: one that has tests of its own may be any
 unfoldable pub is_of : Kind → Data → Bool
-is_of any_text value = is_some (as_str value)
-is_of (text_of low high) value = option_map_or (has_length low high) (as_str value) false
-is_of (integer_of low high) value = is_some (number_within low high value)
+is_of Own value = true
+is_of AnyText value = is_some (as_str value)
+is_of (TextOf low high) value = option_map_or (has_length low high) (as_str value) false
+is_of (IntegerOf low high) value = is_some (number_within low high value)
 
 -- a text of at least and at most that many bytes, where a value is one
 unfoldable pub text_within : ℕ → ℕ → Data → Option (List ℕ)

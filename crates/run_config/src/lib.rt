@@ -15,6 +15,7 @@ mod keys;
 mod kinds;
 mod pairs;
 mod reading;
+mod rows;
 mod schedules;
 mod settings;
 mod values;

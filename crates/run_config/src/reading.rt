@@ -1,17 +1,15 @@
 //! Reads a configuration.
 
-ghost use Rattle.std.specs.Prelude.{◌≡◌, ◌<◌, ◌≤◌, false, length, map, [], ◌∷◌, Some, None, Ok, Err, IfOk, IfSome, IfErr, IsErrOf, OnOk, option_map};
+ghost use Rattle.std.specs.Prelude.{◌≡◌, ◌<◌, ◌≤◌, false, length, map, [], ◌∷◌, Some, None, Ok, Err, IfOk, IfSome, IsErrOf, OnOk, option_map};
 ghost use Rattle.std.specs.Str.{is_utf8};
 ghost use Rattle.toml.specs.View.{view, items_view, table_view};
 ghost use Rattle.run_config.specs.declared.ends.ReadEnd.TheVariants.{NoMemory, Refused};
 ghost use Rattle.run_config.specs.Faults as fault;
 ghost use Rattle.run_config.specs.Accept.{accept, array_length, body_fault, configuration_of, document_fault, format_at, format_in, guests_at, guests_in, head_fault, spare_at, tree_of, AcceptedIsWithinLimits};
-ghost use Rattle.run_config.specs.Answers.{IfRefused};
+ghost use Rattle.run_config.specs.Answers.{AnswersWith, IfRefused, Passes};
 ghost use Rattle.run_config.specs.Configurations.{IsWithinLimits};
 ghost use Rattle.run_config.specs.Guests.{guests_fault, settings_of};
 ghost use Rattle.run_config.specs.Seen.{tables_seen};
-ghost use Rattle.run_config.specs.Tables.{document_table};
-ghost use Rattle.run_config.specs.Tests.{wrong_among};
 ghost use Rattle.run_config.specs.Values.{tables_of};
 
 use crate::configuration::Config;
@@ -20,10 +18,11 @@ use crate::faults::ConfigFault;
 use crate::formats::Format;
 use crate::guests::GuestSettings;
 use crate::keys::ConfigKey;
-use crate::kinds::number_or;
+use crate::kinds::{all_in_range, present};
+use crate::rows::{DOCUMENT_ROWS, document_options};
 use crate::schedules::{schedule_at, turns_of};
 use crate::settings::settings_of;
-use crate::values::{has_only, natural, value_at};
+use crate::values::{has_only, natural, natural_or, value_at};
 use guest_settings::MOST_GUESTS;
 use std::alloc::{AllocError, Global};
 use toml::{Table, Value};
@@ -115,16 +114,12 @@ fn array_length(document: &Table) -> Option<i64>
 
 // How many spare blocks there are.
 #[tactic(auto, unfolding(crate::specs::Accept::spare_at))]
-fn spare_at(format: Format, document: &Table) -> Result<u64, ConfigFault>
-    ensures spare { IfOk result (λ n. n ≡ spare_at format (table_view document.now)) }
-    ensures passed { OnOk result (
-        wrong_among None (table_view document.now) (document_table format) ≡ None) }
-    ensures refused { IfErr result (λ f.
-        wrong_among None (table_view document.now) (document_table format) ≡ Some f) }
+fn spare_at(format: Format, document: &Table) -> u64
+    ensures { result ≡ spare_at format (table_view document.now) }
 {
     match format {
-        Format::One => Ok(0),
-        Format::Two => number_or(0, document, None, ConfigKey::Spare, 0, 32),
+        Format::One => 0,
+        Format::Two => natural_or(0, document, ConfigKey::Spare),
     }
 }
 
@@ -150,18 +145,15 @@ fn all_settings(
 }
 
 // The format of a document that says one, and has the key of the guests.
-#[tactic(auto, unfolding(crate::specs::Accept::head_fault, crate::specs::Accept::format_in, crate::specs::Tests::absent_fault))]
+#[tactic(auto, unfolding(crate::specs::Accept::head_fault, crate::specs::Accept::format_in))]
 fn head_of(document: &Table) -> Result<Format, ConfigFault>
-    ensures passed { OnOk result (head_fault (table_view document.now) ≡ None) }
+    ensures passed { Passes (head_fault (table_view document.now)) result }
     ensures format { IfOk result (λ format. format ≡ format_in (table_view document.now)) }
-    ensures refused { IfErr result (λ f. head_fault (table_view document.now) ≡ Some f) }
 {
     let Some(format) = format_at(document) else {
         return Err(ConfigFault::format())
     };
-    if value_at(document, ConfigKey::Guest).is_none() {
-        return Err(ConfigFault::missing(None, ConfigKey::Guest));
-    }
+    present(None, document, ConfigKey::Guest)?;
     Ok(format)
 }
 
@@ -169,9 +161,8 @@ fn head_of(document: &Table) -> Result<Format, ConfigFault>
 #[tactic(auto, unfolding(crate::specs::Accept::body_fault, crate::specs::Accept::configuration_of, crate::specs::Accept::guests_in, crate::specs::Accept::settings_in, crate::specs::Accept::schedule_in))]
 fn body_of(alloc: Global, format: Format, document: &Table) -> Result<Config, ReadEnd>
     requires { format ≡ format_in (table_view document.now) }
-    ensures passed { OnOk result (body_fault (table_view document.now) ≡ None) }
-    ensures configuration { IfOk result (λ c. c ≡ configuration_of (table_view document.now)) }
-    ensures refused { IfRefused result (λ f. body_fault (table_view document.now) ≡ Some f) }
+    ensures { AnswersWith (body_fault (table_view document.now)) (configuration_of (table_view document.now))
+        result }
 {
     let Some(tables) = guests_at(alloc, document)? else {
         return Err(ReadEnd::Refused(ConfigFault::range(
@@ -180,25 +171,25 @@ fn body_of(alloc: Global, format: Format, document: &Table) -> Result<Config, Re
             array_length(document),
         )))
     };
-    let spare = spare_at(format, document)?;
+    let options = document_options(format);
+    all_in_range(None, document, options)?;
     let guests = all_settings(alloc, format, tables.as_slice())?;
     let Some(schedule) = schedule_at(alloc, guests.len() as u32, document)? else {
         return Err(ReadEnd::Refused(ConfigFault::turns()))
     };
-    if !has_only(document, format.document_keys()) {
+    if !has_only(document, &DOCUMENT_ROWS, options) {
         return Err(ReadEnd::Refused(ConfigFault::extra(None)));
     }
     let turns = turns_of(alloc, guests.as_slice(), schedule)?;
-    Ok(Config::new(guests, turns, spare))
+    Ok(Config::new(guests, turns, spare_at(format, document)))
 }
 
 // The configuration that a document says. Out of memory never stands in the place of a refusal by `format`,
 // or of one where there is no `guest`.
 #[tactic(auto, unfolding(crate::specs::Accept::document_fault))]
 fn configuration_of(alloc: Global, document: &Table) -> Result<Config, ReadEnd>
-    ensures passed { OnOk result (document_fault (table_view document.now) ≡ None) }
-    ensures configuration { IfOk result (λ c. c ≡ configuration_of (table_view document.now)) }
-    ensures refused { IfRefused result (λ f. document_fault (table_view document.now) ≡ Some f) }
+    ensures answer { AnswersWith (document_fault (table_view document.now))
+        (configuration_of (table_view document.now)) result }
     ensures memory { IsErrOf result NoMemory → head_fault (table_view document.now) ≡ None }
 {
     let format = head_of(document)?;

@@ -1,12 +1,12 @@
 //! The turns of a configuration, which are said in one of two forms.
 
-ghost use Rattle.std.specs.Prelude.{◌≡◌, ◌*◌, ◌-◌, ◌^◌, ◌≤◌, ◌&&◌, nat_le, is_none, option_map, length, All, None, Some, IfOk, IfSome, IfNone, OnOk};
+ghost use Rattle.std.specs.Prelude.{◌≡◌, ◌*◌, ◌-◌, ◌^◌, ◌≤◌, ◌&&◌, nat_le, is_none, option_map, length, All, IfOk, IfSome, IfNone};
 ghost use Rattle.toml.specs.View.{view, table_view, items_view};
 ghost use Rattle.run_config.specs.declared.keys.ConfigKey.TheVariants as key;
 ghost use Rattle.turn_plan.specs.Turns.{weighted_rounds};
 ghost use Rattle.run_config.specs.declared.schedules.Schedule.TheVariants.{Rounds};
 ghost use Rattle.run_config.specs.Accept.{weights_of};
-ghost use Rattle.run_config.specs.Answers.{IfRefused};
+ghost use Rattle.run_config.specs.Answers.{AnswersWith};
 ghost use Rattle.run_config.specs.Turns.{listed_turns, quantum_and_rounds, schedule_at, schedule_fault, turns_of, weights_fault, IsFor};
 ghost use Rattle.run_config.specs.Values.{pair_within, pairs_within, value_at};
 
@@ -183,9 +183,8 @@ fn turns_by_rounds(
     requires few { length guests.now ≤ 16 }
     requires light { All (λ g. g.weight ≤ 1000) guests.now }
     requires within { IsFor (length guests.now) (Rounds quantum rounds) }
-    ensures passed { OnOk result (weights_fault (weights_of guests.now) quantum ≡ None) }
-    ensures turns { IfOk result (λ turns. turns ≡ weighted_rounds (weights_of guests.now) quantum rounds) }
-    ensures refused { IfRefused result (λ f. weights_fault (weights_of guests.now) quantum ≡ Some f) }
+    ensures { AnswersWith (weights_fault (weights_of guests.now) quantum)
+        (weighted_rounds (weights_of guests.now) quantum rounds) result }
 {
     let weights = weights_of(alloc, guests)?;
     if let Some(fault) = weights_fault(weights.as_slice(), quantum) {
@@ -203,9 +202,8 @@ pub fn turns_of(
     requires few { length guests.now ≤ 16 }
     requires light { All (λ g. g.weight ≤ 1000) guests.now }
     requires within { IsFor (length guests.now) schedule }
-    ensures passed { OnOk result (schedule_fault (weights_of guests.now) schedule ≡ None) }
-    ensures turns { IfOk result (λ turns. turns ≡ turns_of (weights_of guests.now) schedule) }
-    ensures refused { IfRefused result (λ f. schedule_fault (weights_of guests.now) schedule ≡ Some f) }
+    ensures { AnswersWith (schedule_fault (weights_of guests.now) schedule)
+        (turns_of (weights_of guests.now) schedule) result }
 {
     match schedule {
         Schedule::Listed(turns) => Ok(turns),

@@ -1,15 +1,16 @@
 //! What stands at a key of a table.
 
-ghost use Rattle.std.specs.Prelude.{◌≡◌, ◌≤◌, bytes_eq, option_map, string_bytes, IfSome};
+ghost use Rattle.std.specs.Prelude.{◌≡◌, ◌≤◌, ◌||◌, ◌++◌, bytes_eq, map, option_map, string_bytes, IfSome};
 ghost use Rattle.std.specs.BTreeMap.{keys};
 ghost use Rattle.std.specs.Char.{is_ascii_alphanumeric};
 ghost use Rattle.std.specs.List.{list_all, list_any};
 ghost use Rattle.toml.specs.Data.{get_member};
 ghost use Rattle.toml.specs.View.{view, table_view};
 ghost use Rattle.run_config.specs.Keys.{name_of};
-ghost use Rattle.run_config.specs.Values.{has_length, has_only, is_name, natural, number_within, text_within, value_at};
+ghost use Rattle.run_config.specs.Values.{has_length, has_only, is_name, natural, natural_or, number_within, text_at, text_within, value_at};
 
 use crate::keys::ConfigKey;
+use crate::rows::Row;
 use toml::{Table, Value};
 
 // The value at a key of this text.
@@ -75,6 +76,37 @@ pub fn text_within(low: usize, high: usize, value: &Value) -> Option<&str>
     }
 }
 
+/// The number at a key, and this one where there is none.
+#[tactic(auto, unfolding(crate::specs::Values::natural_or))]
+pub fn natural_or(absent: u64, table: &Table, key: ConfigKey) -> u64
+    ensures { result ≡ natural_or absent key (table_view table.now) }
+{
+    let Some(value) = value_at(table, key) else {
+        return absent
+    };
+    let Some(integer) = value.as_integer() else {
+        return absent
+    };
+    match natural(integer) {
+        Some(number) => number,
+        None => absent,
+    }
+}
+
+/// The text at a key: nothing where there is none.
+#[tactic(auto, unfolding(crate::specs::Values::text_at))]
+pub fn text_at(table: &Table, key: ConfigKey) -> &str
+    ensures { result.now ≡ text_at key (table_view table.now) }
+{
+    let Some(value) = value_at(table, key) else {
+        return ""
+    };
+    match value.as_str() {
+        Some(text) => text,
+        None => "",
+    }
+}
+
 // Whether the text has letters and digits alone, all of them ASCII.
 fn is_alphanumeric(text: &str) -> bool
     ensures { result ≡ list_all is_ascii_alphanumeric text.now }
@@ -92,25 +124,36 @@ pub fn is_name(text: &str) -> bool
     has_length(1, 32, text) && is_alphanumeric(text)
 }
 
-// Whether the text is one of these keys.
-fn is_among(text: &str, known: &[ConfigKey]) -> bool
-    ensures { result ≡ list_any (λ key. bytes_eq text.now (name_of key)) known.now }
+// Whether the text is the key of one of these rows.
+fn is_among(text: &str, rows: &[Row]) -> bool
+    ensures { result ≡ list_any (λ row. bytes_eq text.now (name_of row.key)) rows.now }
 {
-    known.iter().any(|key| text == key.text())
+    rows.iter().any(|row| text == row.key.text())
 }
 
-// Whether each key of the table is one of these.
-fn are_among(table: &Table, known: &[ConfigKey]) -> bool
-    ensures { result ≡ list_all (λ text. list_any (λ key. bytes_eq (string_bytes text) (name_of key))
-        known.now) (keys table.now) }
+// Whether the text is the key of a row of either list.
+fn is_known(text: &str, rows: &[Row], options: &[Row]) -> bool
+    ensures { result ≡ (list_any (λ row. bytes_eq text.now (name_of row.key)) rows.now
+        || list_any (λ row. bytes_eq text.now (name_of row.key)) options.now) }
 {
-    table.keys().all(|key| is_among(key.as_str(), known))
+    is_among(text, rows) || is_among(text, options)
 }
 
-/// Whether the table has no key beyond these.
-#[tactic(auto, using(crate::proofs::Known::has_only_by_keys))]
-pub fn has_only(table: &Table, known: &[ConfigKey]) -> bool
-    ensures { result ≡ has_only known.now (table_view table.now) }
+// Whether each key of the table is that of a row of either list.
+fn are_known(table: &Table, rows: &[Row], options: &[Row]) -> bool
+    ensures { result ≡ list_all (λ text.
+        list_any (λ row. bytes_eq (string_bytes text) (name_of row.key)) rows.now
+        || list_any (λ row. bytes_eq (string_bytes text) (name_of row.key)) options.now) (keys table.now) }
 {
-    are_among(table, known)
+    table
+        .keys()
+        .all(|key| is_known(key.as_str(), rows, options))
+}
+
+/// Whether the table has no key beyond those of these rows.
+#[tactic(auto, using(crate::proofs::Known::has_only_by_rows))]
+pub fn has_only(table: &Table, rows: &[Row], options: &[Row]) -> bool
+    ensures { result ≡ has_only (map (λ row. row.key) (rows.now ++ options.now)) (table_view table.now) }
+{
+    are_known(table, rows, options)
 }

@@ -18,8 +18,8 @@ pub loop-table-preserved : goal.loop-table-preserved
 loop-table-preserved c =
     let format = c.args.format in
     let guests = c.loop-table.guests.items in
-    let is = c.in_ok-guest.ensures.settings ∙ ap (λ t. settings_of format (table_view t.now)) c.table-item.is in
-    let passed : guest_fault format (names_of guests) (table_view c.table-item.result.now) ≡ None = rw c.as_slice.ensures.value at c.in_ok-guest.ensures.passed in
+    let is = c.in_ok-guest.ensures.1 ∙ ap (λ t. settings_of format (table_view t.now)) c.table-item.is in
+    let passed : guest_fault format (names_of guests) (table_view c.table-item.result.now) ≡ None = rw c.as_slice.ensures.value at c.in_ok-guest.ensures.0 in
     let none = ap (λ t. guest_fault format (names_of guests) (table_view t.now)) (sym c.table-item.is) ∙ passed in
     record {
       count = rw c.in_ok-push.ensures.items (omega (arith, length-append guests (c.in_ok-guest.guest ∷ []), c.loop-table.invariant.count));
