@@ -35,7 +35,7 @@ use Rattle.nesthv_top.specs.Reads.{accepted_steps, ask, config_steps, fault_by, 
 use Rattle.nesthv_top.specs.Seen.{plan_seen, IsJob}
 use Rattle.nesthv_top.specs.Steps.{Step, asks_unless, fault_in, made_of, AreAnswered, ArePassed, AskedMore, IsNumberAfter, ReadStopsAs, StopAs}
 use Rattle.nesthv_top.proofs.GuestReads.{all_bootable, made_names, made_of_files}
-use Rattle.nesthv_top.proofs.StepLists.{answered_none, answered_then, asked_none, asked_then, made_all, making_passed, one_passed, one_stopped, passed_then, stop_answers_then, stopped_first, stopped_later, test_passed, test_refused}
+use Rattle.nesthv_top.proofs.StepLists.{answered_none, answered_then, asked_none, asked_then, made_all, one_passed, one_stopped, passed_then, step_passed, step_refused, stop_answers_then, stopped_first, stopped_later}
 use Rattle.outside.proofs.Faults.{rose_since}
 
 -- what reads leave of a store, one after the other
@@ -80,6 +80,26 @@ left_stopped S first most all a end old mid new made made' made'' within one two
   answers = stop_answers_then end made made' made'' (S.asked old) (S.asked mid) (S.asked new) one.answers two.answers;
   numbers = numbers_later first most all end made made' one.numbers.0 one.numbers.1 within two.numbers;
 }
+
+-- the same of another answer, of a test that refuses after it, and where memory ran out after it
+pub left_as : {X A B : Type 0} (S : stores.Ghosts X) (most : ℕ) (a : A) (b : B) (old new : X) (made made' : ℕ) → Leaves S most (Ok a) old new made made' → Leaves S most (Ok b) old new made made'
+left_as S most a b old new made made' left =
+    record { files = left.files; cause = tt; count = left.count; answers = left.answers; numbers = left.numbers }
+
+pub left_refused : {X A B : Type 0} (S : stores.Ghosts X) (most : ℕ) (a : A) (found : ConfigFault) (old new : X) (made made' : ℕ)
+    → Leaves S most (Ok a) old new made made' → Leaves {X = X} {A = B} S most (Err (Refused found)) old new made made'
+left_refused S most a found old new made made' left = record {
+  files = left.files;
+  cause = tt;
+  count = left.count;
+  answers = left.answers;
+  numbers = tt;
+}
+
+pub left_short : {X A B : Type 0} (S : stores.Ghosts X) (most : ℕ) (a : A) (old new : X) (made made' : ℕ)
+    → Leaves S most (Ok a) old new made made' → Leaves {X = X} {A = B} S most (Err (NoMemory made')) old new made made'
+left_short S most a old new made made' left =
+    record { files = left.files; cause = tt; count = left.count; answers = left.answers; numbers = left.numbers.0 }
 
 -- stopped at once
 pub left_first : {X A B : Type 0} (S : stores.Ghosts X) (most all : ℕ) (end : LoadEnd) (old new : X) (made made' : ℕ) → most ≤ all
@@ -165,7 +185,7 @@ text_passed : {A : Type 0} (f : Files) (command : FileCommand) (c : Configuratio
 text_passed f command c result a made before after text ok accepted read =
     let found = text_fault (config_of f command) in
     let first = one_passed (ask (config_name command) config_most) found 0 made before after read (no_fault_if_ok (config_of f command) result a text ok) in
-    let last = making_passed (fault_by (accept (config_of f command))) made after (rw accepted refl) in
+    let last = step_passed true (fault_by (accept (config_of f command))) made after (rw accepted refl) in
     passed_then (reading (ask (config_name command) config_most) found ∷ []) (making (fault_by (accept (config_of f command))) ∷ []) 0 made made before after after first last
 
 pub config_passed : {A : Type 0} (f : Files) (command : FileCommand) (c : Configuration) (result : Result A ReadEnd) (a : A) (made : ℕ) (before after : Option (List Ask))
@@ -174,7 +194,7 @@ pub config_passed : {A : Type 0} (f : Files) (command : FileCommand) (c : Config
 config_passed f command c result a made before after text ok accepted none read =
     let found = absent_guest_fault command (accept (config_of f command)) in
     passed_then (reading (ask (config_name command) config_most) (text_fault (config_of f command)) ∷ making (fault_by (accept (config_of f command))) ∷ []) (testing found ∷ [])
-    0 made made before after after (text_passed f command c result a made before after text ok accepted read) (test_passed found made after (rw accepted none))
+    0 made made before after after (text_passed f command c result a made before after text ok accepted read) (step_passed false found made after (rw accepted none))
 
 pub config_lacks_guest : {A : Type 0} (f : Files) (command : FileCommand) (c : Configuration) (found : ConfigFault) (result : Result A ReadEnd) (a : A) (made : ℕ) (before after : Option (List Ask))
     → TextFault (config_of f command) result → result ≡ Ok a → accept (config_of f command) ≡ Ok c → absent_guest_fault command (Ok c) ≡ Some found
@@ -182,7 +202,7 @@ pub config_lacks_guest : {A : Type 0} (f : Files) (command : FileCommand) (c : C
 config_lacks_guest f command c found result a made before after text ok accepted lacks read =
     let last = absent_guest_fault command (accept (config_of f command)) in
     stopped_later (reading (ask (config_name command) config_most) (text_fault (config_of f command)) ∷ making (fault_by (accept (config_of f command))) ∷ []) (testing last ∷ [])
-    0 made (Refused found) before after after (text_passed f command c result a made before after text ok accepted read) (test_refused last found made after (rw accepted lacks))
+    0 made (Refused found) before after after (text_passed f command c result a made before after text ok accepted read) (step_refused false last found made after (rw accepted lacks))
 
 pub config_refused : {A : Type 0} (f : Files) (command : FileCommand) (found : ConfigFault) (result : Result A ReadEnd) (before after : Option (List Ask))
     → TextFault (config_of f command) result → result ≡ Err (read_end.Refused found) → accept (config_of f command) ≡ Err found
@@ -222,82 +242,26 @@ nothing_stored r (inl (config, is)) = rw is (refl, λ f. refl)
 nothing_stored r (inr (inl (config, is))) = rw is (refl, λ f. refl)
 nothing_stored r (inr (inr (config, guest, is))) = rw is (refl, λ f. refl)
 
--- the frames that the files ask for, and the step that tests them
+-- the frames that the files ask for
 abbrev pub file_frames : Files → Configuration → ℕ
 file_frames f c = frames_with (needs_of_sources (sources_of f c.guests)) c.spare
 
-abbrev last_step : Files → Configuration → List Step
-last_step f c = testing (frames_fault (file_frames f c)) ∷ []
-
 -- the steps of a configuration that is accepted
 pub steps_are : (f : Files) (command : FileCommand) (c : Configuration) → accept (config_of f command) ≡ Ok c
-    → file_steps f command ≡ config_steps f command ++ guests_steps f 0 c.guests ++ report_steps command ++ last_step f c
+    → file_steps f command ≡ config_steps f command ++ guests_steps f 0 c.guests ++ report_steps command ++ testing (frames_fault (file_frames f c)) ∷ []
 unfolding file_steps
 steps_are f command c accepted =
     let config = config_steps f command in
     let guests = guests_steps f 0 c.guests in
+    let last : List Step = testing (frames_fault (file_frames f c)) ∷ [] in
     ap (λ accepted. config ++ accepted_steps f command accepted) accepted
-    ∙ sym (append_assoc config (guests ++ report_steps command) (last_step f c))
-    ∙ ap (λ steps. steps ++ last_step f c) (sym (append_assoc config guests (report_steps command)))
+    ∙ sym (append_assoc config (guests ++ report_steps command) last)
+    ∙ ap (λ steps. steps ++ last) (sym (append_assoc config guests (report_steps command)))
 
--- all steps of a command, by where they stop
-pub config_stop : (f : Files) (command : FileCommand) (end : LoadEnd) (before after : Option (List Ask)) → StopAs (config_steps f command) 0 before end after
-    → StopAs (file_steps f command) 0 before end after
+-- and those of any
+pub steps_begin : (f : Files) (command : FileCommand) → file_steps f command ≡ config_steps f command ++ accepted_steps f command (accept (config_of f command))
 unfolding file_steps
-config_stop f command end before after stopped = stopped_first (config_steps f command) (accepted_steps f command (accept (config_of f command))) 0 end before after stopped
-
--- those of the configuration and of the guests were passed
-pub guests_passed : (f : Files) (command : FileCommand) (c : Configuration) (made made' : ℕ) (before between after : Option (List Ask))
-    → ArePassed (config_steps f command) 0 before made between → ArePassed (guests_steps f 0 c.guests) made between made' after
-    → ArePassed (config_steps f command ++ guests_steps f 0 c.guests) 0 before made' after
-guests_passed f command c made made' before between after one two = passed_then (config_steps f command) (guests_steps f 0 c.guests) 0 made made' before between after one two
-
-pub guests_stop : (f : Files) (command : FileCommand) (c : Configuration) (end : LoadEnd) (made : ℕ) (before between after : Option (List Ask)) → accept (config_of f command) ≡ Ok c
-    → ArePassed (config_steps f command) 0 before made between → StopAs (guests_steps f 0 c.guests) made between end after → StopAs (file_steps f command) 0 before end after
-guests_stop f command c end made before between after accepted one stopped =
-    let guests = config_steps f command ++ guests_steps f 0 c.guests in
-    subst (λ steps. StopAs steps 0 before end after) (sym (steps_are f command c accepted))
-    (stopped_first (guests ++ report_steps command) (last_step f c) 0 end before after
-    (stopped_first guests (report_steps command) 0 end before after
-    (stopped_later (config_steps f command) (guests_steps f 0 c.guests) 0 made end before between after one stopped)))
-
-pub report_stop : (f : Files) (command : FileCommand) (c : Configuration) (end : LoadEnd) (made : ℕ) (before between after : Option (List Ask)) → accept (config_of f command) ≡ Ok c
-    → ArePassed (config_steps f command ++ guests_steps f 0 c.guests) 0 before made between → StopAs (report_steps command) made between end after
-    → StopAs (file_steps f command) 0 before end after
-report_stop f command c end made before between after accepted one stopped =
-    let guests = config_steps f command ++ guests_steps f 0 c.guests in
-    subst (λ steps. StopAs steps 0 before end after) (sym (steps_are f command c accepted))
-    (stopped_first (guests ++ report_steps command) (last_step f c) 0 end before after
-    (stopped_later guests (report_steps command) 0 made end before between after one stopped))
-
-pub frames_stop : (f : Files) (command : FileCommand) (c : Configuration) (found : ConfigFault) (made made' : ℕ) (before between after : Option (List Ask)) → accept (config_of f command) ≡ Ok c
-    → ArePassed (config_steps f command ++ guests_steps f 0 c.guests) 0 before made between → ArePassed (report_steps command) made between made' after
-    → frames_fault (file_frames f c) ≡ Some found → StopAs (file_steps f command) 0 before (Refused found) after
-frames_stop f command c found made made' before between after accepted one two refused =
-    let guests = config_steps f command ++ guests_steps f 0 c.guests in
-    subst (λ steps. StopAs steps 0 before (Refused found) after) (sym (steps_are f command c accepted))
-    (stopped_later (guests ++ report_steps command) (last_step f c) 0 made' (Refused found) before after after
-    (passed_then guests (report_steps command) 0 made made' before between after one two) (test_refused (frames_fault (file_frames f c)) found made' after refused))
-
-pub all_passed : (f : Files) (command : FileCommand) (c : Configuration) (made made' : ℕ) (before between after : Option (List Ask)) → accept (config_of f command) ≡ Ok c
-    → ArePassed (config_steps f command ++ guests_steps f 0 c.guests) 0 before made between → ArePassed (report_steps command) made between made' after
-    → frames_fault (file_frames f c) ≡ None → ArePassed (file_steps f command) 0 before made' after
-all_passed f command c made made' before between after accepted one two none =
-    let guests = config_steps f command ++ guests_steps f 0 c.guests in
-    subst (λ steps. ArePassed steps 0 before made' after) (sym (steps_are f command c accepted))
-    (passed_then (guests ++ report_steps command) (last_step f c) 0 made' made' before after after
-    (passed_then guests (report_steps command) 0 made made' before between after one two) (test_passed (frames_fault (file_frames f c)) made' after none))
-
--- a test that refuses leaves what the reads before it left
-pub left_refused : {X A B : Type 0} (S : stores.Ghosts X) (most : ℕ) (a : A) (found : ConfigFault) (old new : X) (made made' : ℕ)
-    → Leaves S most (Ok a) old new made made' → Leaves {X = X} {A = B} S most (Err (Refused found)) old new made made'
-left_refused S most a found old new made made' left = record {
-  files = left.files;
-  cause = tt;
-  count = left.count;
-  answers = left.answers;
-  numbers = tt;
-}
+steps_begin f command = refl
 
 -- what the ends say of the reads
 pub stopped_says : {X A : Type 0} (S : stores.Ghosts X) (command : FileCommand) (end : LoadEnd) (old new : X) (made' : ℕ)

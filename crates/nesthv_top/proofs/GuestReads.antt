@@ -47,7 +47,7 @@ pub saved_bad : (number : ℕ) (bytes : List ℕ) → is_saved bytes ≡ false �
 saved_bad number bytes is = rw is refl
 
 -- the steps of the first i guests, of the next one, and of those that follow
-steps_split : (files : Files) (before number i : ℕ) (guests : List GuestSettings) (d : GuestSettings) → i < length guests → number ≡ before + i
+pub steps_split : (files : Files) (before number i : ℕ) (guests : List GuestSettings) (d : GuestSettings) → i < length guests → number ≡ before + i
     → guests_steps files before guests
     ≡ guests_steps files before (take i guests) ++ (guest_steps files number (get_or guests i d) ++ guests_steps files (number + 1) (drop (suc i) guests))
 unfolding guests_steps
@@ -60,7 +60,7 @@ steps_split files before number (suc i) (guest ∷ rest) d inside is =
     ∙ sym (append_assoc (guest_steps files before guest) (guests_steps files (before + 1) (take i rest))
     (guest_steps files number (get_or rest i d) ++ guests_steps files (number + 1) (drop (suc i) rest)))
 
-steps_next : (files : Files) (before number i : ℕ) (guests : List GuestSettings) (d : GuestSettings) → i < length guests → number ≡ before + i
+pub steps_next : (files : Files) (before number i : ℕ) (guests : List GuestSettings) (d : GuestSettings) → i < length guests → number ≡ before + i
     → guests_steps files before (take (suc i) guests) ≡ guests_steps files before (take i guests) ++ guest_steps files number (get_or guests i d)
 unfolding guests_steps
 steps_next files before number i [] d inside is = absurd (omega (arith, inside))
@@ -71,42 +71,16 @@ steps_next files before number (suc i) (guest ∷ rest) d inside is =
     ap (λ steps. guest_steps files before guest ++ steps) (steps_next files (before + 1) number i rest d (omega (arith, inside)) (omega (arith, is)))
     ∙ sym (append_assoc (guest_steps files before guest) (guests_steps files (before + 1) (take i rest)) (guest_steps files number (get_or rest i d)))
 
--- what was read so far
-pub record ReadSoFar (files : Files) (settings : List GuestSettings) (found : List GuestFiles) (made : ℕ) (before : Option (List Ask)) (made' : ℕ) (after : Option (List Ask)) : Type 0 where
-  pub passed : ArePassed (guests_steps files 0 settings) made before made' after
-  pub read : found ≡ all_read_for files settings
-
-pub read_none : (files : Files) (made : ℕ) (before : Option (List Ask)) → ReadSoFar files [] [] made before made before
+pub none_steps : (files : Files) → guests_steps files 0 [] ≡ []
 unfolding guests_steps
-read_none files made before = record { passed = none_passed made before; read = refl }
+none_steps files = refl
 
-pub read_more : (files : Files) (settings : List GuestSettings) (i : ℕ) (guest : GuestSettings) (read : List GuestFiles) (one : GuestFiles) (made made' made'' : ℕ) (before between after : Option (List Ask))
-    → i < length settings → guest ≡ get_or settings i guest → ReadSoFar files (take i settings) read made before made' between
-    → ArePassed (guest_steps files i guest) made' between made'' after → one ≡ read_for files guest → ReadSoFar files (take (i + 1) settings) (read ++ one ∷ []) made before made'' after
-read_more files settings i guest read one made made' made'' before between after inside is so_far passed one_is =
-    let next : guests_steps files 0 (take (suc i) settings) ≡ guests_steps files 0 (take i settings) ++ guest_steps files i guest =
-    steps_next files 0 i i settings guest inside (omega arith) ∙ ap (λ g. guests_steps files 0 (take i settings) ++ guest_steps files i g) (sym is) in
-    let more : take (i + 1) settings ≡ take i settings ++ guest ∷ [] = take_more settings i guest inside ∙ ap (λ g. take i settings ++ g ∷ []) (sym is) in
-    record {
-      passed = rw (add-one i, next) (passed_then (guests_steps files 0 (take i settings)) (guest_steps files i guest) made made' made'' before between after so_far.passed passed);
-      read = rw (more, so_far.read, one_is) (sym (map-append (read_for files) (take i settings) (guest ∷ [])));
-    }
-
-pub read_stopped : (files : Files) (settings : List GuestSettings) (i : ℕ) (guest : GuestSettings) (read : List GuestFiles) (made made' : ℕ) (end : LoadEnd) (before between after : Option (List Ask))
-    → i < length settings → guest ≡ get_or settings i guest → ReadSoFar files (take i settings) read made before made' between
-    → StopAs (guest_steps files i guest) made' between end after → StopAs (guests_steps files 0 settings) made before end after
-read_stopped files settings i guest read made made' end before between after inside is so_far stopped =
-    let others = guests_steps files (i + 1) (drop (suc i) settings) in
-    let split : guests_steps files 0 settings ≡ guests_steps files 0 (take i settings) ++ (guest_steps files i guest ++ others) =
-    steps_split files 0 i i settings guest inside (omega arith) ∙ ap (λ g. guests_steps files 0 (take i settings) ++ (guest_steps files i g ++ others)) (sym is) in
-    subst (λ steps. StopAs steps made before end after) (sym split)
-    (stopped_later (guests_steps files 0 (take i settings)) (guest_steps files i guest ++ others) made made' end before between after so_far.passed
-    (stopped_first (guest_steps files i guest) others made' end between after stopped))
-
-pub read_whole : (files : Files) (settings : List GuestSettings) (i : ℕ) (read : List GuestFiles) (made made' : ℕ) (before after : Option (List Ask)) → length settings ≤ i
-    → ReadSoFar files (take i settings) read made before made' after → ReadSoFar files settings read made before made' after
-read_whole files settings i read made made' before after end so_far =
-    subst (λ guests. ReadSoFar files guests read made before made' after) (take_all i settings end) so_far
+-- what the files say for one guest more
+pub all_read_next : (files : Files) (settings : List GuestSettings) (i : ℕ) (guest : GuestSettings) (read : List GuestFiles) (one : GuestFiles) → i < length settings → guest ≡ get_or settings i guest
+    → read ≡ all_read_for files (take i settings) → one ≡ read_for files guest → read ++ one ∷ [] ≡ all_read_for files (take (suc i) settings)
+all_read_next files settings i guest read one inside is read_is one_is =
+    let more : take (suc i) settings ≡ take i settings ++ guest ∷ [] = rw (add-one i) at (take_more settings i guest inside ∙ ap (λ g. take i settings ++ g ∷ []) (sym is)) in
+    rw (more, read_is, one_is) (sym (map-append (read_for files) (take i settings) (guest ∷ [])))
 
 -- memory ran out before the first read
 asks_first : (files : Files) (number : ℕ) (origin : Origin) → 1 ≤ length (asks_in (origin_steps files number origin))

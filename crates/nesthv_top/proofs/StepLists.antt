@@ -1,5 +1,5 @@
 -- Steps, one list after the other.
-use Rattle.std.proofs.Common.{◌≡◌, ◌∙◌, ℕ, ◌+◌, ◌≤◌, List, [], ◌∷◌, ◌++◌, length, map, Option, Some, None, ◌⊎◌, inl, inr, Result, Ok, Err, false, true, refl, ap, sym, subst, arith, append_assoc, length-append}
+use Rattle.std.proofs.Common.{◌≡◌, ◌∙◌, ℕ, ◌+◌, ◌≤◌, List, [], ◌∷◌, ◌++◌, length, map, Option, Some, None, ◌⊎◌, inl, inr, Result, Ok, Err, Bool, false, true, refl, ap, sym, subst, arith, append_assoc, length-append}
 use Rattle.std.proofs.lemmas.List.{append-nil}
 use Rattle.std.proofs.lemmas.List.Elements.{All-append, All-nil}
 use Rattle.outside.specs.Asks.{Ask}
@@ -7,7 +7,7 @@ use Rattle.run_config.specs.declared.faults.ConfigFault.{ConfigFault}
 use Rattle.run_config.specs.Tests.{first_fault}
 use Rattle.nesthv_top.specs.declared.ends.LoadEnd.{LoadEnd}
 use Rattle.nesthv_top.specs.declared.ends.LoadEnd.TheVariants.{Refused, ReadFault, NoMemory}
-use Rattle.nesthv_top.specs.Reads.{making, reading, testing}
+use Rattle.nesthv_top.specs.Reads.{making, reading}
 use Rattle.nesthv_top.specs.Steps.{Step, asks_by, asks_in, asks_unless, fault_in, made_of, ArePassed, AreAnswered, AskedMore, EndAs, IsFailed, IsLastFailed, IsShort, ReadAs, ReadStopsAs, StopAnswers, StopAs, TakesMemory}
 
 -- what is asked in two parts
@@ -224,21 +224,15 @@ one_ended a made made' (Ok value) before after read = one_passed a None made mad
 one_ended a made made' (Err end) before after stopped = one_stopped a None made end before after stopped
 
 -- a step that tests alone
-pub test_passed : (fault : Option ConfigFault) (made : ℕ) (before : Option (List Ask)) → fault ≡ None → ArePassed (testing fault ∷ []) made before made before
-test_passed fault made before none = record { fault = rw none refl; asked = asked_none before; number = omega arith }
+pub step_passed : (takes : Bool) (fault : Option ConfigFault) (made : ℕ) (before : Option (List Ask)) → fault ≡ None
+    → ArePassed (record { ask = None; takes = takes; fault = fault } ∷ []) made before made before
+step_passed takes fault made before none = record { fault = rw none refl; asked = asked_none before; number = omega arith }
 
-pub test_refused : (fault : Option ConfigFault) (found : ConfigFault) (made : ℕ) (before : Option (List Ask)) → fault ≡ Some found
-    → StopAs (testing fault ∷ []) made before (Refused found) before
-test_refused fault found made before some = (rw some refl, rw some (asked_none before))
+pub step_refused : (takes : Bool) (fault : Option ConfigFault) (found : ConfigFault) (made : ℕ) (before : Option (List Ask)) → fault ≡ Some found
+    → StopAs (record { ask = None; takes = takes; fault = fault } ∷ []) made before (Refused found) before
+step_refused takes fault found made before some = (rw some refl, rw some (asked_none before))
 
--- a step whose test takes memory
-pub making_passed : (fault : Option ConfigFault) (made : ℕ) (before : Option (List Ask)) → fault ≡ None → ArePassed (making fault ∷ []) made before made before
-making_passed fault made before none = record { fault = rw none refl; asked = asked_none before; number = omega arith }
-
-pub making_refused : (fault : Option ConfigFault) (found : ConfigFault) (made : ℕ) (before : Option (List Ask)) → fault ≡ Some found
-    → StopAs (making fault ∷ []) made before (Refused found) before
-making_refused fault found made before some = (rw some refl, rw some (asked_none before))
-
+-- out of memory before a test that takes some
 pub making_short : (fault : Option ConfigFault) (made : ℕ) (before : Option (List Ask)) → StopAs (making fault ∷ []) made before (NoMemory made) before
 making_short fault made before = record {
   passed = [];

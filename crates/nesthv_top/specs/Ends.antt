@@ -1,12 +1,13 @@
 -- What each end of a step says.
-use Rattle.std.specs.Prelude.{◌≡◌, ◌≤◌, ℕ, Result, Ok, Err, ⊤}
+use Rattle.std.specs.Prelude.{◌≡◌, ◌≤◌, ℕ, List, Some, Result, Ok, Err, IfOk, ⊤}
 use Rattle.outside.specs.declared.stores.Store as stores
 use Rattle.outside.specs.Faults.{Rose}
+use Rattle.outside.specs.Files.{Files}
 use Rattle.nesthv_top.specs.declared.ends.Ended.{Ended}
 use Rattle.nesthv_top.specs.declared.ends.Ended.TheVariants as ended
 use Rattle.nesthv_top.specs.declared.ends.LoadEnd.{LoadEnd}
 use Rattle.nesthv_top.specs.declared.ends.LoadEnd.TheVariants.{Refused, ReadFault, NoMemory}
-use Rattle.nesthv_top.specs.Steps.{EndAnswers, IsNumbered}
+use Rattle.nesthv_top.specs.Steps.{Step, EndAnswers, EndAs, IsNumbered}
 
 -- the end of the command whose step ended so
 abbrev pub ended_by : LoadEnd → Ended
@@ -39,3 +40,12 @@ pub record Leaves {X A : Type 0} (S : stores.Ghosts X) (most : ℕ) (result : Re
   pub count : S.faults old ≤ S.faults new
   pub answers : EndAnswers made (S.asked old) result made' (S.asked new)
   pub numbers : IsNumbered most made result made'
+
+-- steps of at most that many reads have been made: where the store tells its files, they end as the steps of
+-- these files say, and what a good end answers is what the files say
+pub record HasRead {X A : Type 0} (S : stores.Ghosts X) (steps : Files → List Step) (most : ℕ)
+    (IsSaid : Files → A → Type 0) (result : Result A LoadEnd) (old new : X) (made made' : ℕ) : Type 0 where
+  pub ends : (files : Files) → S.files old ≡ Some files
+      → EndAs (steps files) made (S.asked old) result made' (S.asked new)
+  pub says : (files : Files) → S.files old ≡ Some files → IfOk result (IsSaid files)
+  pub leaves : Leaves S most result old new made made'

@@ -15,12 +15,12 @@ ghost use Rattle.run_config.specs.Accept.{accept};
 ghost use Rattle.run_config.specs.Configurations.{IsFreshWithin, IsGuestWithin, IsWithinLimits};
 ghost use Rattle.nesthv_top.specs.Contents.{config_name, config_of, guest_of, guest_ram_size, image_of, inputs_from, records_in, resumed_of, stored_of};
 ghost use Rattle.nesthv_top.specs.Endings.{IsFirstRead, SaysOfReads};
-ghost use Rattle.nesthv_top.specs.Ends.{ended_of, IfReadFailed, Leaves};
+ghost use Rattle.nesthv_top.specs.Ends.{ended_of, HasRead, IfReadFailed};
 ghost use Rattle.nesthv_top.specs.Loads.{all_read_for, frames_read, fresh_in, fresh_read, read_for, source_with, sources_with, AreFitting, AreGood, FitsOrigin, IsAllRead, IsFitting, IsFreshFitting, IsTested};
 ghost use Rattle.nesthv_top.specs.Plans.{planned};
 ghost use Rattle.nesthv_top.specs.Reads.{config_steps, file_steps, frames_fault, fresh_steps, absent_guest_fault, guest_steps, guests_steps, image_step, input_steps, report_steps, saved_steps};
 ghost use Rattle.nesthv_top.specs.Seen.{loaded_plan, HasGuest, IsJob};
-ghost use Rattle.nesthv_top.specs.Steps.{AreAnswered, ArePassed, EndAs};
+ghost use Rattle.nesthv_top.specs.Steps.{AreAnswered, ArePassed};
 
 use crate::ends::{FilesRead, FreshFiles, GuestFiles, Job, LoadEnd, Loaded};
 use crate::reads::Reads;
@@ -102,17 +102,14 @@ fn read_files<S: Store>(
     store: &mut S,
 ) -> Result<FilesRead, LoadEnd>
     requires none { reads.old.made ≡ 0 }
-    ensures ends { (files : Files) → S.files store.old ≡ Some files → EndAs
-        (file_steps files (file_command_seen request.entry)) 0 (S.asked store.old) result
-        reads.new.made (S.asked store.new) }
+    ensures read { HasRead S.Store (λ files. file_steps files (file_command_seen request.entry)) 34
+        (λ files. IsAllRead files (file_command_seen request.entry)) result
+        store.old store.new 0 reads.new.made }
     ensures first { IsFirstRead S.Store (Some (OnFiles (file_command_seen request.entry))) (ended_of result)
         store.old store.new }
-    ensures read { (files : Files) → S.files store.old ≡ Some files
-        → IfOk result (IsAllRead files (file_command_seen request.entry)) }
+    ensures some { OnOk result (1 ≤ reads.new.made) }
     ensures tested { IfOk result IsTested }
     ensures guest { IfOk result (λ read. HasGuest (file_command_seen request.entry) read.config) }
-    ensures some { OnOk result (1 ≤ reads.new.made) }
-    ensures leaves { Leaves S.Store 34 result store.old store.new 0 reads.new.made }
 {
     let config = read_config(alloc, request, reads, store)?;
     let guests = read_guests(alloc, config.guests(), reads, store)?;
@@ -149,17 +146,14 @@ fn read_config<S: Store>(
     store: &mut S,
 ) -> Result<Config, LoadEnd>
     requires none { reads.old.made ≡ 0 }
-    ensures ends { (files : Files) → S.files store.old ≡ Some files → EndAs
-        (config_steps files (file_command_seen request.entry)) 0 (S.asked store.old) result
-        reads.new.made (S.asked store.new) }
+    ensures read { HasRead S.Store (λ files. config_steps files (file_command_seen request.entry)) 1
+        (λ files config. accept (config_of files (file_command_seen request.entry)) ≡ Ok config) result
+        store.old store.new 0 reads.new.made }
     ensures first { IsFirstRead S.Store (Some (OnFiles (file_command_seen request.entry))) (ended_of result)
         store.old store.new }
-    ensures accepted { (files : Files) → S.files store.old ≡ Some files → IfOk result (λ config.
-        accept (config_of files (file_command_seen request.entry)) ≡ Ok config) }
+    ensures some { OnOk result (1 ≤ reads.new.made) }
     ensures limits { IfOk result IsWithinLimits }
     ensures guest { IfOk result (HasGuest (file_command_seen request.entry)) }
-    ensures some { OnOk result (1 ≤ reads.new.made) }
-    ensures leaves { Leaves S.Store 1 result store.old store.new 0 reads.new.made }
 {
     let bytes = reads.read(alloc, store, config_name(request), CONFIG_MOST)?;
     match run_config::read(alloc, bytes.as_slice()) {
@@ -195,13 +189,10 @@ fn read_guests<S: Store>(
     requires few { length settings.now ≤ 16 }
     requires early { reads.old.made ≤ 1 }
     requires each { All IsGuestWithin settings.now }
-    ensures ends { (files : Files) → S.files store.old ≡ Some files → EndAs
-        (guests_steps files 0 settings.now) reads.old.made (S.asked store.old) result
-        reads.new.made (S.asked store.new) }
-    ensures read { (files : Files) → S.files store.old ≡ Some files
-        → IfOk result (λ guests. guests.items ≡ all_read_for files settings.now) }
+    ensures read { HasRead S.Store (λ files. guests_steps files 0 settings.now) 32
+        (λ files guests. guests.items ≡ all_read_for files settings.now) result
+        store.old store.new reads.old.made reads.new.made }
     ensures fitting { IfOk result (λ guests. AreFitting settings.now guests.items) }
-    ensures leaves { Leaves S.Store 32 result store.old store.new reads.old.made reads.new.made }
 {
     let Ok(mut guests) = Vec::with_capacity(alloc, settings.len()) else {
         return Err(reads.no_memory());
@@ -222,13 +213,10 @@ fn read_guest<S: Store>(
 ) -> Result<GuestFiles, LoadEnd>
     requires few { reads.old.made ≤ 32 }
     requires limits { IsGuestWithin settings.now }
-    ensures ends { (files : Files) → S.files store.old ≡ Some files → EndAs
-        (guest_steps files guest settings.now) reads.old.made (S.asked store.old) result
-        reads.new.made (S.asked store.new) }
-    ensures read { (files : Files) → S.files store.old ≡ Some files
-        → IfOk result (λ read. read ≡ read_for files settings.now) }
+    ensures read { HasRead S.Store (λ files. guest_steps files guest settings.now) 2
+        (λ files read. read ≡ read_for files settings.now) result
+        store.old store.new reads.old.made reads.new.made }
     ensures fitting { IfOk result (IsFitting settings.now) }
-    ensures leaves { Leaves S.Store 2 result store.old store.new reads.old.made reads.new.made }
 {
     match &settings.origin {
         Origin::Fresh(fresh) => {
@@ -252,13 +240,10 @@ fn read_fresh<S: Store>(
 ) -> Result<FreshFiles, LoadEnd>
     requires few { reads.old.made ≤ 32 }
     requires limits { IsFreshWithin fresh.now }
-    ensures ends { (files : Files) → S.files store.old ≡ Some files → EndAs
-        (fresh_steps files guest fresh.now) reads.old.made (S.asked store.old) result
-        reads.new.made (S.asked store.new) }
-    ensures read { (files : Files) → S.files store.old ≡ Some files
-        → IfOk result (λ read. read ≡ fresh_read files fresh.now) }
+    ensures read { HasRead S.Store (λ files. fresh_steps files guest fresh.now) 2
+        (λ files read. read ≡ fresh_read files fresh.now) result
+        store.old store.new reads.old.made reads.new.made }
     ensures fitting { IfOk result (IsFreshFitting fresh.now) }
-    ensures leaves { Leaves S.Store 2 result store.old store.new reads.old.made reads.new.made }
 {
     let image = read_image(alloc, fresh, guest, reads, store)?;
     let records = read_records(alloc, &fresh.input, guest, reads, store)?;
@@ -275,13 +260,10 @@ fn read_image<S: Store>(
 ) -> Result<Bytes, LoadEnd>
     requires few { reads.old.made ≤ 32 }
     requires limits { IsFreshWithin fresh.now }
-    ensures ends { (files : Files) → S.files store.old ≡ Some files → EndAs
-        (image_step files guest fresh.now ∷ []) reads.old.made (S.asked store.old) result
-        reads.new.made (S.asked store.new) }
-    ensures image { (files : Files) → S.files store.old ≡ Some files
-        → IfOk result (λ image. image ≡ image_of files fresh.now) }
+    ensures read { HasRead S.Store (λ files. image_step files guest fresh.now ∷ []) 1
+        (λ files image. image ≡ image_of files fresh.now) result
+        store.old store.new reads.old.made reads.new.made }
     ensures fits { IfOk result (λ image. length image ≤ guest_ram_size fresh.now) }
-    ensures leaves { Leaves S.Store 1 result store.old store.new reads.old.made reads.new.made }
 {
     let size = fresh.blocks * BLOCK_SIZE;
     let bytes = reads.read(alloc, store, fresh.image.as_str(), size + 1)?;
@@ -301,13 +283,10 @@ fn read_saved<S: Store>(
     store: &mut S,
 ) -> Result<Saved, LoadEnd>
     requires few { reads.old.made ≤ 32 }
-    ensures ends { (files : Files) → S.files store.old ≡ Some files → EndAs
-        (saved_steps files guest name.now) reads.old.made (S.asked store.old) result
-        reads.new.made (S.asked store.new) }
-    ensures machine { (files : Files) → S.files store.old ≡ Some files
-        → IfOk result (λ saved. saved ≡ resumed_of files name.now) }
+    ensures read { HasRead S.Store (λ files. saved_steps files guest name.now) 1
+        (λ files saved. saved ≡ resumed_of files name.now) result
+        store.old store.new reads.old.made reads.new.made }
     ensures savable { IfOk result (λ saved. IsSavable saved.machine) }
-    ensures leaves { Leaves S.Store 1 result store.old store.new reads.old.made reads.new.made }
 {
     let bytes = reads.read(alloc, store, name.as_str(), SAVED_MOST)?;
     match guest_save::read(alloc, bytes.as_slice()) {
@@ -326,13 +305,10 @@ fn read_records<S: Store>(
     store: &mut S,
 ) -> Result<Bytes, LoadEnd>
     requires few { reads.old.made ≤ 33 }
-    ensures ends { (files : Files) → S.files store.old ≡ Some files → EndAs
-        (input_steps files guest input.now) reads.old.made (S.asked store.old) result
-        reads.new.made (S.asked store.new) }
-    ensures records { (files : Files) → S.files store.old ≡ Some files
-        → IfOk result (λ records. records ≡ records_in files input.now) }
+    ensures read { HasRead S.Store (λ files. input_steps files guest input.now) 1
+        (λ files records. records ≡ records_in files input.now) result
+        store.old store.new reads.old.made reads.new.made }
     ensures good { IfOk result (AreGood input.now) }
-    ensures leaves { Leaves S.Store 1 result store.old store.new reads.old.made reads.new.made }
 {
     let InputSource::File(name) = input else {
         return Ok(Bytes::from_vec(Vec::new(alloc)));
@@ -352,11 +328,9 @@ fn read_stored<S: Store>(
     store: &mut S,
 ) -> Result<Vec<u8>, LoadEnd>
     requires few { reads.old.made ≤ 33 }
-    ensures ends { EndAs (report_steps (file_command_seen request.entry)) reads.old.made (S.asked store.old)
-        result reads.new.made (S.asked store.new) }
-    ensures stored { (files : Files) → S.files store.old ≡ Some files
-        → IfOk result (λ stored. stored.items ≡ stored_of files (file_command_seen request.entry)) }
-    ensures leaves { Leaves S.Store 1 result store.old store.new reads.old.made reads.new.made }
+    ensures read { HasRead S.Store (λ files. report_steps (file_command_seen request.entry)) 1
+        (λ files stored. stored.items ≡ stored_of files (file_command_seen request.entry)) result
+        store.old store.new reads.old.made reads.new.made }
 {
     match request {
         FileRequest::Run { .. } | FileRequest::Check { .. } | FileRequest::Save { .. } => {

@@ -1,40 +1,29 @@
-use Rattle.std.proofs.Common.{rules, ◌≡◌, ◌∙◌, [], ◌∷◌, Err, arith}
-use Rattle.nesthv_top.specs.Reads.{image_step, input_steps}
-use Rattle.nesthv_top.proofs.CommandReads.{left_first, left_passed, left_stopped}
-use Rattle.nesthv_top.proofs.StepLists.{passed_then, stopped_first, stopped_later}
+use Rattle.std.proofs.Common.{rules, List, ◌≡◌, ◌∙◌, [], ◌∷◌, Err, refl, arith}
+use Rattle.outside.specs.Files.{Files}
+use Rattle.nesthv_top.specs.Loads.{fresh_read}
+use Rattle.nesthv_top.specs.Reads.{fresh_steps, image_step, input_steps}
+use Rattle.nesthv_top.specs.Steps.{Step}
+use Rattle.nesthv_top.proofs.Readings.{read_first, read_passed, read_stopped}
 use Rattle.nesthv_top.proofs.loading.read_fresh.Goals as goal
 
-pub returns-in_err-image-clause-ends : goal.returns-in_err-image-clause-ends
-returns-in_err-image-clause-ends g c = λ files told.
+pub returns-in_err-image-clause-read : goal.returns-in_err-image-clause-read
+returns-in_err-image-clause-read g c =
     let fresh = c.args.fresh.now in
     let is : c.from_residual.result ≡ Err c.in_err-image.field-0.0 = search rules in
-    rw is (stopped_first (image_step files c.args.guest fresh ∷ []) (input_steps files c.args.guest fresh.input) _ c.in_err-image.field-0.0 _ _ (c.in_err-image.ensures.ends files told))
+    rw is (read_first g.S.Store (λ f. image_step f c.args.guest fresh ∷ []) (λ f. input_steps f c.args.guest fresh.input) (λ f. fresh_steps f c.args.guest fresh) 1 2 _ _
+    c.in_err-image.field-0.0 _ _ _ _ (omega arith) (λ f told. refl) c.in_err-image.ensures.read)
 
-pub returns-in_err-image-clause-leaves : goal.returns-in_err-image-clause-leaves
-returns-in_err-image-clause-leaves g c =
-    let is : c.from_residual.result ≡ Err c.in_err-image.field-0.0 = search rules in
-    rw is (left_first g.S.Store 1 2 c.in_err-image.field-0.0 _ _ _ _ (omega arith) c.in_err-image.ensures.leaves)
-
-pub returns-in_err-records-clause-ends : goal.returns-in_err-records-clause-ends
-returns-in_err-records-clause-ends g c = λ files told.
+pub returns-in_err-records-clause-read : goal.returns-in_err-records-clause-read
+returns-in_err-records-clause-read g c =
     let fresh = c.args.fresh.now in
-    let image = c.in_ok-image.ensures in
     let is : c.from_residual-in_err-records.result ≡ Err c.in_err-records.field-0.0 = search rules in
-    rw is (stopped_later (image_step files c.args.guest fresh ∷ []) (input_steps files c.args.guest fresh.input) _ _ c.in_err-records.field-0.0 _ _ _ (image.ends files told)
-    (c.in_err-records.ensures.ends files (image.leaves.files ∙ told)))
+    rw is (read_stopped g.S.Store (λ f. image_step f c.args.guest fresh ∷ []) (λ f. input_steps f c.args.guest fresh.input) (λ f. fresh_steps f c.args.guest fresh) 1 1 2 _ _ _
+    c.in_ok-image.image c.in_err-records.field-0.0 _ _ _ _ _ _ (omega arith) (λ f told. refl) c.in_ok-image.ensures.read c.in_err-records.ensures.read)
 
-pub returns-in_err-records-clause-leaves : goal.returns-in_err-records-clause-leaves
-returns-in_err-records-clause-leaves g c =
-    let is : c.from_residual-in_err-records.result ≡ Err c.in_err-records.field-0.0 = search rules in
-    rw is (left_stopped g.S.Store 1 1 2 c.in_ok-image.image c.in_err-records.field-0.0 _ _ _ _ _ _ (omega arith) c.in_ok-image.ensures.leaves c.in_err-records.ensures.leaves)
-
-pub returns-clause-ends : goal.returns-clause-ends
-returns-clause-ends g c = λ files told.
+pub returns-clause-read : goal.returns-clause-read
+returns-clause-read g c =
     let fresh = c.args.fresh.now in
-    let image = c.in_ok-image.ensures in
-    passed_then (image_step files c.args.guest fresh ∷ []) (input_steps files c.args.guest fresh.input) _ _ _ _ _ _ (image.ends files told)
-    (c.in_ok-records.ensures.ends files (image.leaves.files ∙ told))
-
-pub returns-clause-leaves : goal.returns-clause-leaves
-returns-clause-leaves g c =
-    left_passed g.S.Store 1 1 2 c.in_ok-image.image c.in_ok-records.records _ _ _ _ _ _ _ (omega arith) c.in_ok-image.ensures.leaves c.in_ok-records.ensures.leaves
+    let image = c.in_ok-image.ensures.read in
+    let records = c.in_ok-records.ensures.read in
+    read_passed g.S.Store (λ f. image_step f c.args.guest fresh ∷ []) (λ f. input_steps f c.args.guest fresh.input) (λ f. fresh_steps f c.args.guest fresh) 1 1 2 _ _ (λ f read. read ≡ fresh_read f fresh)
+    c.in_ok-image.image c.in_ok-records.records _ _ _ _ _ _ _ (omega arith) (λ f told. refl) (λ f told. rw (image.says f told, records.says f (image.leaves.files ∙ told)) refl) image records

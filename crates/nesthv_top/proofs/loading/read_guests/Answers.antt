@@ -1,63 +1,77 @@
-use Rattle.std.proofs.Common.{rules, ◌≡◌, ◌∙◌, ◌+◌, ◌*◌, Err, refl, arith}
-use Rattle.nesthv_top.proofs.CommandReads.{left_none, left_passed, left_stopped}
-use Rattle.nesthv_top.proofs.GuestReads.{fitting_more, fitting_none, fitting_whole, read_more, read_none, read_stopped, read_whole, short_first}
+use Rattle.std.specs.Prelude.{⊤}
+use Rattle.std.proofs.Common.{rules, ℕ, List, ◌≡◌, ◌∙◌, ◌+◌, ◌*◌, ◌++◌, [], ◌∷◌, suc, drop, take, Err, refl, ap, sym, arith, add-one}
+use Rattle.std.proofs.lemmas.List.{append-nil, take_all}
+use Rattle.outside.specs.Files.{Files}
+use Rattle.nesthv_top.specs.Loads.{all_read_for}
+use Rattle.nesthv_top.specs.Reads.{guest_steps, guests_steps}
+use Rattle.nesthv_top.specs.Steps.{Step}
+use Rattle.nesthv_top.proofs.GuestReads.{all_read_next, fitting_more, fitting_none, fitting_whole, none_steps, short_first, steps_next, steps_split}
+use Rattle.nesthv_top.proofs.CommandReads.{left_first, left_none, left_short}
+use Rattle.nesthv_top.proofs.Readings.{read_first, read_none, read_passed, read_stopped}
 use Rattle.nesthv_top.proofs.loading.read_guests.Goals as goal
 
-pub returns-in_default-clause-ends : goal.returns-in_default-clause-ends
-returns-in_default-clause-ends g c = λ files told.
-    rw c.no_memory.ensures (short_first files c.args.settings.now c.args.reads.now.made (g.S.Store.asked c.args.store.now) c.requires.some)
+pub returns-in_default-clause-read : goal.returns-in_default-clause-read
+returns-in_default-clause-read g c =
+    rw c.no_memory.ensures (record {
+      ends = λ files told. short_first files c.args.settings.now c.args.reads.now.made (g.S.Store.asked c.args.store.now) c.requires.some;
+      says = λ files told. tt;
+      leaves = left_first {A = ℕ} g.S.Store 0 32 _ _ _ _ _ (omega arith) (left_short {A = ℕ} g.S.Store 0 0 c.args.store.now c.args.store.now _ _ (left_none {A = ℕ} g.S.Store 0 c.args.store.now c.args.reads.now.made));
+    })
 
 pub loop-i-init : goal.loop-i-init
 loop-i-init g c = record {
-  told = λ files told. rw c.in-Ok.ensures.items (read_none files c.args.reads.now.made (g.S.Store.asked c.args.store.now));
+  read = read_none g.S.Store (λ f. guests_steps f 0 []) 0 (λ f guests. guests.items ≡ all_read_for f []) c.in-Ok.guests c.args.store.now c.args.reads.now.made
+      (λ f told. none_steps f) (λ f told. c.in-Ok.ensures.items);
   fitting = rw c.in-Ok.ensures.items fitting_none;
   room = omega (arith, c.in-Ok.ensures.capacity);
   count = rw c.in-Ok.ensures.items refl;
-  leaves = left_none g.S.Store c.in-Ok.guests c.args.store.now c.args.reads.now.made;
 }
 
 pub read_guest-requires-clause-few : goal.read_guest-requires-clause-few
-read_guest-requires-clause-few g c = omega (arith, c.requires.early, c.requires.few, c.loop-i-test.true, c.loop-i.invariant.leaves.numbers.1)
+read_guest-requires-clause-few g c = omega (arith, c.requires.early, c.requires.few, c.loop-i-test.true, c.loop-i.invariant.read.leaves.numbers.1)
 
-pub returns-in_err-read_guest-clause-ends : goal.returns-in_err-read_guest-clause-ends
-returns-in_err-read_guest-clause-ends g c = λ files told.
-    let inv = c.loop-i.invariant in
+pub returns-in_err-read_guest-clause-read : goal.returns-in_err-read_guest-clause-read
+returns-in_err-read_guest-clause-read g c =
+    let i = c.loop-i.i in
+    let settings = c.args.settings.now in
+    let guest = c.index-settings-i.result in
+    let before : Files → List Step = λ f. guests_steps f 0 (take i settings) in
+    let others : Files → List Step = λ f. guests_steps f (i + 1) (drop (suc i) settings) in
+    let split : (f : Files) → guests_steps f 0 settings ≡ before f ++ (guest_steps f i guest ++ others f) =
+    λ f. steps_split f 0 i i settings guest c.loop-i-test.true (omega arith) ∙ ap (λ g. before f ++ (guest_steps f i g ++ others f)) (sym c.index-settings-i.is) in
     let is : c.from_residual.result ≡ Err c.in_err-read_guest.field-0.0 = search rules in
-    rw is (read_stopped files c.args.settings.now c.loop-i.i c.index-settings-i.result c.loop-i.guests.items c.args.reads.now.made c.loop-i.reads.made c.in_err-read_guest.field-0.0
-    (g.S.Store.asked c.args.store.now) (g.S.Store.asked c.loop-i.store) (g.S.Store.asked c.read_guest.new.store) c.loop-i-test.true c.index-settings-i.is
-    (inv.told files told) (c.in_err-read_guest.ensures.ends files (inv.leaves.files ∙ told)))
-
-pub returns-in_err-read_guest-clause-leaves : goal.returns-in_err-read_guest-clause-leaves
-returns-in_err-read_guest-clause-leaves g c =
-    let inv = c.loop-i.invariant in
-    let is : c.from_residual.result ≡ Err c.in_err-read_guest.field-0.0 = search rules in
-    rw is (left_stopped g.S.Store (2 * c.loop-i.i) 2 32 c.loop-i.guests c.in_err-read_guest.field-0.0 c.args.store.now c.loop-i.store c.read_guest.new.store
-    c.args.reads.now.made c.loop-i.reads.made c.read_guest.new.reads.made (omega (arith, c.loop-i-test.true, c.requires.few)) inv.leaves c.in_err-read_guest.ensures.leaves)
+    rw is (read_stopped {B = ℕ} g.S.Store before (λ f. guest_steps f i guest ++ others f) (λ f. guests_steps f 0 settings) (2 * i) 2 32 _ _ _ c.loop-i.guests c.in_err-read_guest.field-0.0
+    _ _ _ _ _ _ (omega (arith, c.loop-i-test.true, c.requires.few)) (λ f told. split f) c.loop-i.invariant.read
+    (read_first g.S.Store (λ f. guest_steps f i guest) others (λ f. guest_steps f i guest ++ others f) 2 2 _ (λ f none. ⊤) c.in_err-read_guest.field-0.0 _ _ _ _ (omega arith)
+    (λ f told. refl) c.in_err-read_guest.ensures.read))
 
 pub loop-i-preserved : goal.loop-i-preserved
 loop-i-preserved g c =
+    let i = c.loop-i.i in
+    let settings = c.args.settings.now in
+    let guest = c.index-settings-i.result in
     let inv = c.loop-i.invariant in
     let one = c.in_ok-read_guest.ensures in
     let items = c.push_reserved.ensures.items in
     record {
-      told = λ files told.
-          rw items (read_more files c.args.settings.now c.loop-i.i c.index-settings-i.result c.loop-i.guests.items c.in_ok-read_guest.field-0 c.args.reads.now.made c.loop-i.reads.made
-          c.read_guest.new.reads.made (g.S.Store.asked c.args.store.now) (g.S.Store.asked c.loop-i.store) (g.S.Store.asked c.read_guest.new.store) c.loop-i-test.true c.index-settings-i.is
-          (inv.told files told) (one.ends files (inv.leaves.files ∙ told)) (one.read files (inv.leaves.files ∙ told)));
-      fitting = rw items (fitting_more c.args.settings.now c.loop-i.i c.index-settings-i.result c.loop-i.guests.items c.in_ok-read_guest.field-0 c.loop-i-test.true c.index-settings-i.is inv.fitting one.fitting);
+      read = rw (add-one i) (read_passed g.S.Store (λ f. guests_steps f 0 (take i settings)) (λ f. guest_steps f i guest) (λ f. guests_steps f 0 (take (suc i) settings)) (2 * i) 2 (2 * (suc i))
+          _ _ (λ f guests. guests.items ≡ all_read_for f (take (suc i) settings)) c.loop-i.guests c.in_ok-read_guest.field-0 _ _ _ _ _ _ _ (omega arith)
+          (λ f told. steps_next f 0 i i settings guest c.loop-i-test.true (omega arith) ∙ ap (λ g. guests_steps f 0 (take i settings) ++ guest_steps f i g) (sym c.index-settings-i.is))
+          (λ f told. rw items (all_read_next f settings i guest c.loop-i.guests.items c.in_ok-read_guest.field-0 c.loop-i-test.true c.index-settings-i.is
+          (inv.read.says f told) (one.read.says f (inv.read.leaves.files ∙ told)))) inv.read one.read);
+      fitting = rw items (fitting_more settings i guest c.loop-i.guests.items c.in_ok-read_guest.field-0 c.loop-i-test.true c.index-settings-i.is inv.fitting one.fitting);
       room = omega (arith, c.push_reserved.ensures.capacity, inv.room);
       count = omega (arith, c.push_reserved.ensures.len, inv.count);
-      leaves = left_passed g.S.Store (2 * c.loop-i.i) 2 (2 * (c.loop-i.i + 1)) c.loop-i.guests c.in_ok-read_guest.field-0 _ c.args.store.now c.loop-i.store c.read_guest.new.store
-          c.args.reads.now.made c.loop-i.reads.made c.read_guest.new.reads.made (omega arith) inv.leaves one.leaves;
     }
 
-pub returns-clause-ends : goal.returns-clause-ends
-returns-clause-ends g c = λ files told.
-    (read_whole files c.args.settings.now c.loop-i.i c.loop-i.guests.items _ _ _ _ c.loop-i-test.false (c.loop-i.invariant.told files told)).passed
-
 pub returns-clause-read : goal.returns-clause-read
-returns-clause-read g c = λ files told.
-    (read_whole files c.args.settings.now c.loop-i.i c.loop-i.guests.items _ _ _ _ c.loop-i-test.false (c.loop-i.invariant.told files told)).read
+returns-clause-read g c =
+    let settings = c.args.settings.now in
+    let all : take c.loop-i.i settings ≡ settings = take_all c.loop-i.i settings c.loop-i-test.false in
+    read_passed g.S.Store (λ f. guests_steps f 0 settings) (λ f. []) (λ f. guests_steps f 0 settings) (2 * c.loop-i.i) 0 32 _ (λ f none. ⊤) (λ f guests. guests.items ≡ all_read_for f settings)
+    c.loop-i.guests c.loop-i.guests c.loop-i.guests _ _ _ _ _ _ (omega (arith, c.requires.few, c.loop-i.invariant.count)) (λ f told. sym (append-nil (guests_steps f 0 settings)))
+    (λ f told. rw all at (c.loop-i.invariant.read.says f told)) (rw all at c.loop-i.invariant.read)
+    (read_none g.S.Store (λ f. []) 0 (λ f none. ⊤) c.loop-i.guests _ _ (λ f told. refl) (λ f told. tt))
 
 pub returns-clause-fitting : goal.returns-clause-fitting
 returns-clause-fitting g c = fitting_whole c.args.settings.now c.loop-i.i c.loop-i.guests.items c.loop-i-test.false c.loop-i.invariant.fitting
