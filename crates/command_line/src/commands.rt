@@ -99,8 +99,8 @@ fn command_line<'a>(alloc: Global) -> Result<Command<'a>, AllocError>
     )
 }
 
-// Whether no word after the first is empty or begins with a dash.
-fn are_plain(words: &[Word]) -> bool
+/// Whether no word is empty or begins with a dash.
+pub fn are_plain(words: &[Word]) -> bool
     ensures { result ≡ list_all is_plain words.now }
 {
     words.iter().all(|word| is_plain(word.as_str()))
@@ -214,9 +214,9 @@ fn work_request<'a>(seed: &str, size: &str) -> Option<Request<'a>>
     Some(Request::Work { seed, size })
 }
 
-// The number of a word of 1 to that many digits, where it is within these bounds.
+/// The number of a word of 1 to that many digits, where it is within these bounds.
 #[tactic(auto, unfolding(crate::specs::Commands::bounded_number), using(crate::proofs::Numbers::numbers))]
-fn number_of(word: &str, digits: usize, least: u64, most: u64) -> Option<u64>
+pub fn number_of(word: &str, digits: usize, least: u64, most: u64) -> Option<u64>
     ensures number { result ≡ bounded_number digits least most word.now }
     ensures bounds { IfSome result (λ n. (least ≤ n) × (n ≤ most)) }
 {

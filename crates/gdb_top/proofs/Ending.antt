@@ -1,7 +1,5 @@
 -- How a talk about a guest of a plan ends, and what its end tells.
-use Rattle.std.proofs.Common.{◌≡◌, ◌∙◌, ◌<◌, ◌≤◌, ◌⊎◌, inl, inr, ℕ, zero, suc, ◌+◌, List, [], length, get_or, Option, Some, None, ap, subst, sym, refl, arith}
-use Rattle.std.proofs.lemmas.List.{get_or-map}
-use Rattle.std.specs.Option.{IsSomeAnd}
+use Rattle.std.proofs.Common.{◌≡◌, ◌∙◌, ◌≤◌, ◌⊎◌, inl, inr, ℕ, zero, suc, List, [], Option, Some, None, ap, subst, refl, arith}
 use Rattle.std.specs.Prelude.{IsSome}
 use Rattle.command_line.specs.Commands.{Command, FileCommand, OnFiles}
 use Rattle.outside.specs.declared.connections.Connection as connections
@@ -13,9 +11,6 @@ use Rattle.gdb_stub.specs.Sessions.{Recording}
 use Rattle.gdb_stub.specs.Talks.{at_begin, HasTalked, TalkState}
 use Rattle.gdb_stub.specs.declared.talks.TalkEnd.{TalkEnd}
 use Rattle.gdb_stub.specs.declared.talks.TalkEnd.TheVariants as talk_end
-use Rattle.guest_turns.specs.declared.sources.Source.{Source}
-use Rattle.guest_turns.specs.Hosted.{machine_at, no_machine}
-use Rattle.guest_turns.specs.Sources.{machine_of_source, machines_of_sources}
 use Rattle.machine_defs.specs.Machine.{Machine}
 use Rattle.nesthv_top.specs.declared.ends.Ended.{Ended}
 use Rattle.nesthv_top.specs.declared.ends.Ended.TheVariants.{Done, Differs, NoCommand, Refused, ReadFault, WriteFault, NoMemory}
@@ -23,16 +18,13 @@ use Rattle.nesthv_top.specs.Endings.{HasPlan, IsEndFor, IsRefusal, ReadsFrom, Sa
 use Rattle.nesthv_top.specs.Plans.{Plan, command_fault, plan_of}
 use Rattle.nesthv_top.specs.Reads.{file_steps}
 use Rattle.nesthv_top.specs.Statuses.{status_of}
-use Rattle.nesthv_top.specs.Steps.{asks_in, ArePassed}
-use Rattle.nesthv_top.proofs.StepLists.{made_all}
+use Rattle.nesthv_top.specs.Steps.{ArePassed}
 use Rattle.nesthv_top.proofs.Telling.{has_plan, known, not_both}
-use Rattle.gdb_top.specs.Debugging.{debug_command, saving_words, TalksAbout}
-use Rattle.gdb_top.proofs.Saving.{never_replayed}
+use Rattle.guest_commands.specs.GuestWords.{saving_command, saving_words}
+use Rattle.guest_commands.proofs.GuestWords.{never_replayed}
+use Rattle.guest_commands.proofs.LoadedPlans.{all_read}
+use Rattle.gdb_top.specs.Debugging.{TalksAbout}
 use Rattle.gdb_top.specs.Endings.{files_end, IsCutTalk, SaysOfCauses, SaysOfTalk}
-
--- a plan of which something holds
-pub has : {A : Type 0} (found : Option A) (a : A) (P : A → Type 0) → found ≡ Some a → P a → IsSomeAnd found P
-has found a P is holds = subst (λ found. IsSomeAnd found P) (sym is) holds
 
 abbrev pub recording : Machine → ℕ → List ℕ → Recording
 recording begin last description = record { begin = begin; last = last; description = description }
@@ -41,12 +33,6 @@ pub same_recording : (begin first : Machine) (last steps : ℕ) (description : L
     → recording begin last description ≡ recording first steps description
 same_recording begin first last steps description one other =
     ap (λ (m : Machine). recording m last description) one ∙ ap (λ (n : ℕ). recording first n description) other
-
--- the machine of a source by its number
-pub begins_with : (sources : List Source) (g : ℕ) (source : Source) → g < length sources → source ≡ get_or sources g source
-    → machine_of_source source ≡ machine_at (machines_of_sources sources) g
-begins_with sources g source inside is =
-    ap (λ (s : Source). machine_of_source s) is ∙ sym (get_or-map machine_of_source sources g source no_machine inside)
 
 -- a talk of a recording at its start
 pub talks_from : {C : Type 0} (K : connections.Ghosts C) (old new : C) (end : Option TalkEnd) (rec r : Recording) (t : TalkState) (come : List ℕ)
@@ -63,15 +49,7 @@ module _ {C : Type 0} (K : connections.Ghosts C) (told : Option Files) (command 
       → HasPlan told (Some (OnFiles command)) (λ files command plan. TalksAbout K plan command description (Some talk_end.NoMemory) old new)
       → IsCutTalk K told (Some (OnFiles command)) description n old new
   cut_talk zero before after some passed talk = absurd (omega (arith, some))
-  cut_talk (suc n) before after some passed talk = inr (λ files is.
-      let all = passed files is in (
-        all.number ∙ zero_plus (length (asks_in (file_steps files command)))
-            ∙ ap (λ (asks : List Ask). length asks) (sym (made_all (file_steps files command) all.fault)),
-        talk files is,
-      ))
-    where
-      zero_plus : (n : ℕ) → 0 + n ≡ n
-      zero_plus n = omega arith
+  cut_talk (suc n) before after some passed talk = inr (λ files is. (all_read files command (suc n) before after (passed files is), talk files is))
 
 -- what the statuses tell
 module _ {X C : Type 0} (S : stores.Ghosts X) (K : connections.Ghosts C) (command : Option Command) (description : List ℕ)
@@ -128,35 +106,35 @@ module _ {X C : Type 0} (S : stores.Ghosts X) (K : connections.Ghosts C) (comman
 
 module _ {X C : Type 0} (S : stores.Ghosts X) (K : connections.Ghosts C) (words : List (List ℕ)) (description : List ℕ)
     (store store' : X) (connection connection' : C) where
-  refuses : (files : Files) (ended : Ended) → ReadsFrom (S.files store) (debug_command words) files → IsEndFor ended (saving_words words)
-      → SaysOfTalk K (S.files store) (debug_command words) description ended connection connection'
-      → IsSome (command_fault files (debug_command words)) → (status_of ended ≡ 2) ⊎ (status_of ended ≡ 3) ⊎ (status_of ended ≡ 5)
-  refuses files Done told is talk fault = no_talk S K (debug_command words) description store store' connection connection' files _ told fault talk
+  refuses : (files : Files) (ended : Ended) → ReadsFrom (S.files store) (saving_command words) files → IsEndFor ended (saving_words words)
+      → SaysOfTalk K (S.files store) (saving_command words) description ended connection connection'
+      → IsSome (command_fault files (saving_command words)) → (status_of ended ≡ 2) ⊎ (status_of ended ≡ 3) ⊎ (status_of ended ≡ 5)
+  refuses files Done told is talk fault = no_talk S K (saving_command words) description store store' connection connection' files _ told fault talk
   refuses files Differs told is talk fault = absurd (never_replayed words is)
   refuses files NoCommand told is talk fault = let none = rw is at fault in cc
   refuses files (Refused found) told is talk fault = inl refl
   refuses files (ReadFault n) told is talk fault = inr (inl refl)
-  refuses files WriteFault told is talk fault = no_talk S K (debug_command words) description store store' connection connection' files _ told fault talk
+  refuses files WriteFault told is talk fault = no_talk S K (saving_command words) description store store' connection connection' files _ told fault talk
   refuses files (NoMemory n) told is talk fault = inr (inr refl)
 
-  pub refusal : (ended : Ended) → IsEndFor ended (saving_words words) → SaysOfReads S (debug_command words) (files_end ended) store store'
-      → SaysOfTalk K (S.files store) (debug_command words) description ended connection connection'
-      → IsRefusal (S.files store) (debug_command words) (status_of ended)
+  pub refusal : (ended : Ended) → IsEndFor ended (saving_words words) → SaysOfReads S (saving_command words) (files_end ended) store store'
+      → SaysOfTalk K (S.files store) (saving_command words) description ended connection connection'
+      → IsRefusal (S.files store) (saving_command words) (status_of ended)
   refusal ended is reads talk = record {
-    only = λ files told two. refused_fault S K (debug_command words) description store store' connection connection' files ended told reads two;
+    only = λ files told two. refused_fault S K (saving_command words) description store store' connection connection' files ended told reads two;
     always = λ files told. refuses files ended told is talk;
   }
 
-  pub complete : (files : Files) (ended : Ended) → ReadsFrom (S.files store) (debug_command words) files → IsEndFor ended (saving_words words)
-      → SaysOfReads S (debug_command words) (files_end ended) store store' → SaysOfCauses S K ended store store' connection connection'
-      → IsSome (plan_of files (debug_command words)) → ¬ Rose (S.faults store) (S.faults store')
+  pub complete : (files : Files) (ended : Ended) → ReadsFrom (S.files store) (saving_command words) files → IsEndFor ended (saving_words words)
+      → SaysOfReads S (saving_command words) (files_end ended) store store' → SaysOfCauses S K ended store store' connection connection'
+      → IsSome (plan_of files (saving_command words)) → ¬ Rose (S.faults store) (S.faults store')
       → ¬ Rose (K.read_faults connection) (K.read_faults connection') → ¬ Rose (K.write_faults connection) (K.write_faults connection')
       → (status_of ended ≡ 0) ⊎ (status_of ended ≡ 5)
   complete files Done told is reads causes plan file read write = inl refl
   complete files Differs told is reads causes plan file read write = absurd (never_replayed words is)
   complete files NoCommand told is reads causes plan file read write = let none = rw is at plan in cc
   complete files (Refused found) told is reads causes plan file read write =
-      absurd (not_both files (debug_command words) plan (known (command_fault files (debug_command words)) found (reads.fault files told)))
+      absurd (not_both files (saving_command words) plan (known (command_fault files (saving_command words)) found (reads.fault files told)))
   complete files (ReadFault zero) told is reads causes plan file read write = absurd (read causes.read)
   complete files (ReadFault (suc n)) told is reads causes plan file read write = absurd (file causes.read)
   complete files WriteFault told is reads causes plan file read write = absurd (write causes.write)

@@ -1,7 +1,6 @@
 -- What is debugged, and what is said about it.
-use Rattle.std.specs.Prelude.{⊤, ℕ, Bool, false, List, [], ◌∷◌, Option, codes}
-use Rattle.std.specs.List.{list_all}
-use Rattle.command_line.specs.Commands.{Command, FileCommand, OnFiles, Save, command_of, is_plain}
+use Rattle.std.specs.Prelude.{ℕ, List, [], Option}
+use Rattle.command_line.specs.Commands.{Command, OnFiles, Save}
 use Rattle.gdb_stub.specs.Sessions.{Recording}
 use Rattle.gdb_stub.specs.declared.talks.TalkEnd.{TalkEnd}
 use Rattle.gdb_stub.specs.Talks.{at_begin, HasTalked}
@@ -9,24 +8,6 @@ use Rattle.guest_turns.specs.Hosted.{machine_at}
 use Rattle.guest_turns.specs.TurnLists.{own_steps}
 use Rattle.nesthv_top.specs.Plans.{Plan, machines_of}
 use Rattle.outside.specs.declared.connections.Connection as connections
-
--- the words after the program's name are a configuration and a guest's number, as those of a save are
-abbrev pub saving_words : List (List ℕ) → List (List ℕ)
-saving_words [] = []
-saving_words (name ∷ words) = name ∷ codes "save" ∷ words
-
--- whether there is a word, and none after the first is empty or begins with a dash
-abbrev pub are_plain : List (List ℕ) → Bool
-are_plain [] = false
-are_plain (name ∷ words) = list_all is_plain words
-
--- a command that saves a guest
-abbrev pub IsSave : FileCommand → Type 0
-IsSave (Save config guest) = ⊤
-IsSave other = ⊥
-
-abbrev pub debug_command : List (List ℕ) → Option Command
-debug_command words = command_of (saving_words words)
 
 -- the run of a guest of a plan, up to the end of its own turns
 abbrev pub recording_for : Plan → ℕ → List ℕ → Recording

@@ -3,24 +3,17 @@ use Rattle.std.specs.Prelude.{◌≡◌, ◌≤◌, ◌⊎◌, ℕ, zero, suc, L
 use Rattle.command_line.specs.Commands.{Command}
 use Rattle.gdb_stub.specs.declared.talks.TalkEnd.TheVariants as talk_end
 use Rattle.outside.specs.declared.connections.Connection as connections
-use Rattle.outside.specs.declared.sinks.Sink as sinks
 use Rattle.outside.specs.declared.stores.Store as stores
 use Rattle.outside.specs.Faults.{Rose}
 use Rattle.outside.specs.Files.{Files}
 use Rattle.nesthv_top.specs.declared.ends.Ended.{Ended}
-use Rattle.nesthv_top.specs.declared.ends.Ended.TheVariants.{Done, NoCommand, ReadFault, WriteFault, NoMemory}
-use Rattle.nesthv_top.specs.Endings.{HasPlan, IfKnown, IfReadFault, IfWriteFault, SaysOfErr, WithPlan}
+use Rattle.nesthv_top.specs.declared.ends.Ended.TheVariants.{Done, ReadFault, WriteFault, NoMemory}
+use Rattle.nesthv_top.specs.Endings.{HasPlan, IfKnown, IfReadFault, IfWriteFault, WithPlan}
 use Rattle.nesthv_top.specs.Reads.{asks_of}
-use Rattle.nesthv_top.specs.Written.{IsLinePut}
 use Rattle.gdb_top.specs.Debugging.{TalksAbout}
 
 abbrev pub debugger_usage : List ℕ
 debugger_usage = codes "nesthv-gdb: usage: CONFIG GUEST\n"
-
--- the line that tells of an end: that of `nesthv`, but for the usage
-abbrev pub SaysOfLine : {Z : Type 0} → sinks.Ghosts Z → Ended → Z → Z → Type 0
-SaysOfLine E NoCommand old new = IsLinePut E old new debugger_usage
-SaysOfLine E other old new = SaysOfErr E other old new
 
 -- the end by the reads of files: read fault 0 is one of the connection, and comes after all of these
 abbrev pub files_end : Ended → Ended

@@ -1,25 +1,29 @@
 // The debugger from its words to its status.
 
 ghost use Rattle.std.specs.Prelude.{◌≡◌, ◌⊎◌, None, Some, IfOk, IsSome, OnErr};
-ghost use Rattle.std.specs.List.{list_all};
-ghost use Rattle.command_line.specs.Commands.{is_plain, OnFiles};
+ghost use Rattle.command_line.specs.Commands.{OnFiles};
 ghost use Rattle.command_line.specs.Seen.{file_command_seen};
+ghost use Rattle.guest_commands.specs.EndLines.{SaysOfLine};
+ghost use Rattle.guest_commands.specs.GuestWords.{IsSave, saving_command, saving_words};
 ghost use Rattle.outside.specs.Faults.{Rose};
 ghost use Rattle.nesthv_top.specs.Endings.{HasPlan, IfKnown, IsEndFor, IsOfCommand, IsRefusal, SaysOfReads};
 ghost use Rattle.nesthv_top.specs.Lines.{memory_line};
 ghost use Rattle.nesthv_top.specs.Plans.{plan_of};
 ghost use Rattle.nesthv_top.specs.Statuses.{IsNoCommand, IsStatusOf};
 ghost use Rattle.nesthv_top.specs.Written.{IsLinePut};
-ghost use Rattle.gdb_top.specs.Debugging.{are_plain, debug_command, saving_words, IsSave, TalksAbout};
-ghost use Rattle.gdb_top.specs.Endings.{files_end, debugger_usage, SaysOfCauses, SaysOfLine, SaysOfTalk};
+ghost use Rattle.gdb_top.specs.Debugging.{TalksAbout};
+ghost use Rattle.gdb_top.specs.Endings.{files_end, debugger_usage, SaysOfCauses, SaysOfTalk};
 
 use crate::guests::talk_about;
 use command_line::{FileRequest, Request, request_of};
 use gdb_stub::TalkEnd;
-use nesthv_top::{Ended, Loaded, Reads, load, status_of, tell};
+use guest_commands::{are_plain, saving_words, say};
+use nesthv_top::{Ended, Loaded, Reads, load, status_of};
 use no_memory::NoMemory;
 use outside::{Connection, Sink, Store, Word};
 use std::alloc::Global;
+
+const USAGE: &[u8] = b"nesthv-gdb: usage: CONFIG GUEST\n";
 
 /// Lets gdb look at a guest of a configuration, at each position of its run, and answers the program's
 /// status: 0 where gdb has left or its stream has ended, and else those of `nesthv`. A read fault of number 0
@@ -35,20 +39,20 @@ pub fn debug<S: Store, C: Connection, E: Sink>(
     // The headline: on status 0 all has been answered as the definition says, for the run of the guest's lone
     // machine, and each message before more was waited for.
     ensures talk { IfOk words (λ words. result ≡ 0
-        → HasPlan (S.files store.old) (debug_command words.items) (λ files command plan.
+        → HasPlan (S.files store.old) (saving_command words.items) (λ files command plan.
         TalksAbout C.Connection plan command description.now None connection.old connection.new)) }
 
     // When each status comes. 5 is out of memory, which is free.
     ensures no_command { IfOk words (λ words. IsNoCommand (saving_words words.items) result) }
     ensures refused { IfOk words (λ words.
-        IsRefusal (S.files store.old) (debug_command words.items) result) }
+        IsRefusal (S.files store.old) (saving_command words.items) result) }
     ensures read_fault { result ≡ 3 → Rose (S.faults store.old) (S.faults store.new)
         ⊎ Rose (C.read_faults connection.old) (C.read_faults connection.new) }
     ensures write_fault { result ≡ 4
         → Rose (C.write_faults connection.old) (C.write_faults connection.new) }
     ensures complete { IfOk words (λ words.
-        IfKnown (S.files store.old) (debug_command words.items) (λ files.
-        IsSome (plan_of files (debug_command words.items))
+        IfKnown (S.files store.old) (saving_command words.items) (λ files.
+        IsSome (plan_of files (saving_command words.items))
         → ¬ Rose (S.faults store.old) (S.faults store.new)
         → ¬ Rose (C.read_faults connection.old) (C.read_faults connection.new)
         → ¬ Rose (C.write_faults connection.old) (C.write_faults connection.new)
@@ -57,11 +61,11 @@ pub fn debug<S: Store, C: Connection, E: Sink>(
     // What it leaves, by the end that the status stands for.
     ensures ended { IfOk words (λ words. IsStatusOf result (λ ended.
         IsEndFor ended (saving_words words.items)
-        × SaysOfReads S.Store (debug_command words.items) (files_end ended) store.old store.new
+        × SaysOfReads S.Store (saving_command words.items) (files_end ended) store.old store.new
         × SaysOfCauses S.Store C.Connection ended store.old store.new connection.old connection.new
-        × SaysOfTalk C.Connection (S.files store.old) (debug_command words.items) description.now ended
+        × SaysOfTalk C.Connection (S.files store.old) (saving_command words.items) description.now ended
         connection.old connection.new
-        × SaysOfLine E.Sink ended err.old err.new)) }
+        × SaysOfLine E.Sink debugger_usage ended err.old err.new)) }
 
     // Without words.
     ensures status { OnErr words (result ≡ 5) }
@@ -72,7 +76,7 @@ pub fn debug<S: Store, C: Connection, E: Sink>(
     match words {
         Ok(words) => debug_words(alloc, words, description, store, connection, err),
         Err(NoMemory) => {
-            say(Ended::NoMemory(0), err);
+            say(Ended::NoMemory(0), USAGE, err);
             status_of(Ended::NoMemory(0))
         }
     }
@@ -88,90 +92,35 @@ fn debug_words<S: Store, C: Connection, E: Sink>(
     err: &mut E,
 ) -> u8
     ensures talk { result ≡ 0
-        → HasPlan (S.files store.old) (debug_command words.items) (λ files command plan.
+        → HasPlan (S.files store.old) (saving_command words.items) (λ files command plan.
         TalksAbout C.Connection plan command description.now None connection.old connection.new) }
     ensures no_command { IsNoCommand (saving_words words.items) result }
-    ensures refused { IsRefusal (S.files store.old) (debug_command words.items) result }
+    ensures refused { IsRefusal (S.files store.old) (saving_command words.items) result }
     ensures read_fault { result ≡ 3 → Rose (S.faults store.old) (S.faults store.new)
         ⊎ Rose (C.read_faults connection.old) (C.read_faults connection.new) }
     ensures write_fault { result ≡ 4
         → Rose (C.write_faults connection.old) (C.write_faults connection.new) }
-    ensures complete { IfKnown (S.files store.old) (debug_command words.items) (λ files.
-        IsSome (plan_of files (debug_command words.items))
+    ensures complete { IfKnown (S.files store.old) (saving_command words.items) (λ files.
+        IsSome (plan_of files (saving_command words.items))
         → ¬ Rose (S.faults store.old) (S.faults store.new)
         → ¬ Rose (C.read_faults connection.old) (C.read_faults connection.new)
         → ¬ Rose (C.write_faults connection.old) (C.write_faults connection.new)
         → (result ≡ 0) ⊎ (result ≡ 5)) }
     ensures ended { IsStatusOf result (λ ended.
         IsEndFor ended (saving_words words.items)
-        × SaysOfReads S.Store (debug_command words.items) (files_end ended) store.old store.new
+        × SaysOfReads S.Store (saving_command words.items) (files_end ended) store.old store.new
         × SaysOfCauses S.Store C.Connection ended store.old store.new connection.old connection.new
-        × SaysOfTalk C.Connection (S.files store.old) (debug_command words.items) description.now ended
+        × SaysOfTalk C.Connection (S.files store.old) (saving_command words.items) description.now ended
         connection.old connection.new
-        × SaysOfLine E.Sink ended err.old err.new) }
+        × SaysOfLine E.Sink debugger_usage ended err.old err.new) }
 {
     let ended = obey(alloc, words, description, store, connection);
-    say(ended, err);
+    say(ended, USAGE, err);
     status_of(ended)
 }
 
-// Puts the line that tells of an end.
-fn say<E: Sink>(ended: Ended, err: &mut E)
-    ensures { SaysOfLine E.Sink ended err.old err.new }
-{
-    match ended {
-        Ended::NoCommand => put_usage(err),
-        other => tell(other, err),
-    }
-}
-
-// Puts the line of usage; a fault of this sink changes nothing.
-fn put_usage<E: Sink>(err: &mut E)
-    ensures { IsLinePut E.Sink err.old err.new debugger_usage }
-{
-    let _ = err.put(b"nesthv-gdb: usage: CONFIG GUEST\n");
-}
-
-fn is_plain(word: &str) -> bool
-    ensures { result ≡ is_plain word.now }
-{
-    match word.as_bytes() {
-        [] => false,
-        [first, ..] => *first != b'-',
-    }
-}
-
-fn all_plain(words: &[Word]) -> bool
-    ensures { result ≡ list_all is_plain words.now }
-{
-    words.iter().all(|word| is_plain(word.as_str()))
-}
-
-// Whether there is a word, and none after the first is empty or begins with a dash.
-#[tactic(auto, using(crate::proofs::Saving::plainly))]
-fn are_plain(words: &[Word]) -> bool
-    ensures { result ≡ are_plain words.now }
-{
-    if words.is_empty() {
-        return false;
-    }
-    all_plain(&words[1..])
-}
-
-// The words with that of a command behind the program's name.
-fn saving_words(alloc: Global, words: Vec<Word>) -> Result<Vec<Word>, NoMemory>
-    ensures { IfOk result (λ all. all.items ≡ saving_words words.items) }
-{
-    let mut all = words;
-    if all.is_empty() {
-        return Ok(all);
-    }
-    all.insert(1, Word::new(alloc, "save")?)?;
-    Ok(all)
-}
-
 // Does what the words ask for.
-#[tactic(auto, using(crate::proofs::Saving::saves_alone, nesthv_top::proofs::CommandReads::nothing_read, nesthv_top::proofs::CommandReads::no_command_says))]
+#[tactic(auto, using(guest_commands::proofs::GuestWords::saves_alone, nesthv_top::proofs::CommandReads::nothing_read, nesthv_top::proofs::CommandReads::no_command_says))]
 fn obey<S: Store, C: Connection>(
     alloc: Global,
     words: Vec<Word>,
@@ -180,11 +129,11 @@ fn obey<S: Store, C: Connection>(
     connection: &mut C,
 ) -> Ended
     ensures words { IsEndFor result (saving_words words.items) }
-    ensures reads { SaysOfReads S.Store (debug_command words.items) (files_end result)
+    ensures reads { SaysOfReads S.Store (saving_command words.items) (files_end result)
         store.old store.new }
     ensures causes { SaysOfCauses S.Store C.Connection result store.old store.new
         connection.old connection.new }
-    ensures talk { SaysOfTalk C.Connection (S.files store.old) (debug_command words.items)
+    ensures talk { SaysOfTalk C.Connection (S.files store.old) (saving_command words.items)
         description.now result connection.old connection.new }
 {
     if !are_plain(words.as_slice()) {

@@ -4,7 +4,8 @@ use Rattle.command_line.specs.Commands.{OnFiles}
 use Rattle.gdb_stub.specs.declared.talks.TalkEnd.TheVariants as talk_end
 use Rattle.nesthv_top.specs.Seen.{loaded_plan}
 use Rattle.gdb_top.specs.Debugging.{TalksAbout}
-use Rattle.gdb_top.proofs.Ending.{cut_talk, has}
+use Rattle.guest_commands.proofs.LoadedPlans.{has}
+use Rattle.gdb_top.proofs.Ending.{cut_talk}
 use Rattle.gdb_top.proofs.debugging.answer.Goals as goal
 
 pub returns-in-Ok-talk_about-clause-talk : goal.returns-in-Ok-talk_about-clause-talk

@@ -1,11 +1,11 @@
-use Rattle.gdb_top.specs.Debugging.{debug_command, saving_words}
+use Rattle.guest_commands.specs.GuestWords.{saving_command, saving_words}
 use Rattle.gdb_top.proofs.Ending.{complete, read_fault, refusal, talked, write_fault}
 use Rattle.nesthv_top.proofs.Telling.{no_command}
 use Rattle.gdb_top.proofs.debugging.debug_words.Goals as goal
 
 pub returns-clause-talk : goal.returns-clause-talk
 returns-clause-talk g c = λ zero.
-    talked g.S.Store g.C.Connection (debug_command c.args.words.items) c.args.description.now c.args.store.now c.obey-ended.new.store c.args.connection.now c.obey-ended.new.connection c.obey-ended.result (rw c.status_of.ensures at zero)
+    talked g.S.Store g.C.Connection (saving_command c.args.words.items) c.args.description.now c.args.store.now c.obey-ended.new.store c.args.connection.now c.obey-ended.new.connection c.obey-ended.result (rw c.status_of.ensures at zero)
     c.obey-ended.ensures.talk
 
 pub returns-clause-no_command : goal.returns-clause-no_command
@@ -20,12 +20,12 @@ returns-clause-refused g c =
 
 pub returns-clause-read_fault : goal.returns-clause-read_fault
 returns-clause-read_fault g c = λ three.
-    read_fault g.S.Store g.C.Connection (debug_command c.args.words.items) c.args.description.now c.args.store.now c.obey-ended.new.store c.args.connection.now c.obey-ended.new.connection c.obey-ended.result (rw c.status_of.ensures at three)
+    read_fault g.S.Store g.C.Connection (saving_command c.args.words.items) c.args.description.now c.args.store.now c.obey-ended.new.store c.args.connection.now c.obey-ended.new.connection c.obey-ended.result (rw c.status_of.ensures at three)
     c.obey-ended.ensures.causes
 
 pub returns-clause-write_fault : goal.returns-clause-write_fault
 returns-clause-write_fault g c = λ four.
-    write_fault g.S.Store g.C.Connection (debug_command c.args.words.items) c.args.description.now c.args.store.now c.obey-ended.new.store c.args.connection.now c.obey-ended.new.connection c.obey-ended.result (rw c.status_of.ensures at four)
+    write_fault g.S.Store g.C.Connection (saving_command c.args.words.items) c.args.description.now c.args.store.now c.obey-ended.new.store c.args.connection.now c.obey-ended.new.connection c.obey-ended.result (rw c.status_of.ensures at four)
     c.obey-ended.ensures.causes
 
 pub returns-clause-complete : goal.returns-clause-complete

@@ -1,5 +1,5 @@
 use Rattle.std.proofs.Common.{arith}
-use Rattle.gdb_top.proofs.Saving.{none_read}
+use Rattle.guest_commands.proofs.GuestWords.{none_read}
 use Rattle.gdb_top.proofs.debugging.obey.Goals as goal
 
 pub returns-then-not-are_plain-clause-reads : goal.returns-then-not-are_plain-clause-reads

@@ -1,6 +1,6 @@
 use Rattle.std.proofs.Common.{◌≡◌, ◌*◌, ◌^◌, ◌≤◌, take}
 use Rattle.guest_turns.specs.TurnLists.{own_steps}
-use Rattle.gdb_top.proofs.guests.own_steps.Given as goal
+use Rattle.guest_commands.proofs.lone_guests.own_steps.Given as goal
 
 abbrev pub invariant-loop-i : goal.invariant-loop-i
 invariant-loop-i l = record {

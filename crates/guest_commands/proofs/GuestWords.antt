@@ -1,11 +1,11 @@
 -- The command of words with that of a save behind the program's name.
-use Rattle.std.proofs.Common.{arith, refl, sym, ◌≡◌, ◌≤◌, drop, length, ℕ, Bool, true, false, List, [], ◌∷◌, Option, Some, None, option_map}
+use Rattle.std.proofs.Common.{arith, refl, sym, ◌≡◌, ℕ, Bool, true, false, List, [], ◌∷◌, Option, Some, None, option_map}
 use Rattle.std.specs.Prelude.{⊤, codes, if◌then◌else◌}
 use Rattle.std.specs.List.{list_all}
 use Rattle.command_line.specs.Commands.{Command, OnFiles, Run, Replay, Check, Save, Work, asked_by, command_of, guest_number, is_plain}
 use Rattle.command_line.specs.declared.commands.FileRequest.{FileRequest}
 use Rattle.command_line.specs.Seen.{file_command_seen}
-use Rattle.gdb_top.specs.Debugging.{are_plain, debug_command, saving_words, IsSave}
+use Rattle.guest_commands.specs.GuestWords.{are_plain, saving_command, saving_words, IsSave}
 use Rattle.outside.specs.declared.stores.Store as stores
 use Rattle.nesthv_top.specs.declared.ends.Ended.{Ended}
 use Rattle.nesthv_top.specs.declared.ends.Ended.TheVariants.{NoCommand}
@@ -33,7 +33,7 @@ if_plain : (plain : Bool) (words : List (List ℕ)) → Saves (if plain then ask
 if_plain true words = by_words words
 if_plain false words = tt
 
-by_all : (words : List (List ℕ)) → Saves (debug_command words)
+by_all : (words : List (List ℕ)) → Saves (saving_command words)
 unfolding command_of
 by_all [] = tt
 by_all (name ∷ words) = if_plain (list_all is_plain (codes "save" ∷ words)) words
@@ -45,7 +45,7 @@ asks_save words all request behind asked = rw (← behind, ← asked) at (by_all
 pub asks_no_work : (words all : List (List ℕ)) (seed size : ℕ) → all ≡ saving_words words → Some (Work seed size) ≡ command_of all → ⊥
 asks_no_work words all seed size behind asked = rw (← behind, ← asked) at (by_all words)
 
--- no words of the debugger are a replay
+-- no such words are a replay
 not_saved : (command : Option Command) → Saves command → IsReplay command → ⊥
 not_saved (Some (OnFiles (Run file))) saves (config, report, is) = cc
 not_saved (Some (OnFiles (Replay file other))) saves is = saves
@@ -54,37 +54,26 @@ not_saved (Some (OnFiles (Save file guest))) saves (config, report, is) = cc
 not_saved (Some (Work seed size)) saves is = saves
 not_saved None saves (config, report, is) = cc
 
-pub never_replayed : (words : List (List ℕ)) → IsReplay (debug_command words) → ⊥
-never_replayed words is = not_saved (debug_command words) (by_all words) is
+pub never_replayed : (words : List (List ℕ)) → IsReplay (saving_command words) → ⊥
+never_replayed words is = not_saved (saving_command words) (by_all words) is
 
 -- words that are not plain are not a command
-pub asks_none : (words : List (List ℕ)) → are_plain words ≡ false → debug_command words ≡ None
+pub asks_none : (words : List (List ℕ)) → are_plain words ≡ false → saving_command words ≡ None
 unfolding command_of
 asks_none [] other = refl
 asks_none (name ∷ words) other = rw (other) refl
 
 -- so they read nothing
 pub none_read : {X : Type 0} (S : stores.Ghosts X) (words : List (List ℕ)) (store : X) → are_plain words ≡ false
-    → SaysOfReads S (debug_command words) NoCommand store store
-none_read S words store other = no_command_says S (debug_command words) store (asks_none words other)
+    → SaysOfReads S (saving_command words) NoCommand store store
+none_read S words store other = no_command_says S (saving_command words) store (asks_none words other)
 
 -- those that are stay so
 pub saving_plain : (words : List (List ℕ)) → are_plain words ≡ true → ArePlain (saving_words words)
 saving_plain [] plain = absurd cc
 saving_plain (name ∷ words) plain = record { some = omega arith; plain = plain }
 
--- whether words are plain, by those after the first
-pub plain_rest : (words : List (List ℕ)) → 1 ≤ length words → list_all is_plain (drop 1 words) ≡ are_plain words
-plain_rest [] some = absurd (omega (arith, some))
-plain_rest (name ∷ words) some = refl
-
-pub plain_none : (words : List (List ℕ)) → length words ≡ 0 → are_plain words ≡ false
-plain_none [] none = refl
-plain_none (name ∷ words) none = absurd (omega (arith, none))
-
-pub ruleset plainly = (plain_rest, plain_none)
-
--- a command of the debugger, by its words
+-- a command of a program, by its words
 pub asks_for : (words all : List (List ℕ)) (request : FileRequest) (ended : Ended) → all ≡ saving_words words
     → Some (OnFiles (file_command_seen request)) ≡ command_of all → IsOfCommand (OnFiles (file_command_seen request)) ended → IsEndFor ended (saving_words words)
 asks_for words all request ended behind asked is = rw (← behind) (is_for all (OnFiles (file_command_seen request)) ended (sym asked) is)

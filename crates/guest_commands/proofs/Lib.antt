@@ -1,0 +1,4 @@
+pub mod GuestWords
+pub mod LoadedPlans
+pub mod LoneMachines
+pub mod OwnSteps
