@@ -4,6 +4,7 @@ use Rattle.std.specs.Prelude.{ℕ, zero, suc, ◌+◌, ◌==◌, ◌&&◌, nat_l
 use Rattle.std.specs.List.{flat_map, list_any}
 use Rattle.arch_defs.specs.declared.cached.Entry.{Entry}
 use Rattle.arch_defs.specs.declared.first.FirstEntry.{FirstEntry}
+use Rattle.arch_defs.specs.declared.registers.Virtual.{Virtual}
 use Rattle.arch_defs.specs.declared.roots.GuestRoot.{GuestRoot}
 use Rattle.arch_defs.specs.FirstEntries.{is_first_of}
 use Rattle.arch_defs.specs.Memory.{ram_memory}
@@ -20,20 +21,30 @@ use Rattle.machine_defs.specs.Machine.{Machine}
 use Rattle.machine_defs.specs.Runs.{run}
 use Rattle.run_log.specs.Fills.{leaf_of_first, first_translation, next_filled, leaf_of_second, second_translation}
 use Rattle.run_log.specs.Seen.{Seen, head_of}
-use Rattle.run_log.specs.Uses.{First, Second, Use, uses}
+use Rattle.run_log.specs.declared.uses.Use.{Use}
+use Rattle.run_log.specs.declared.uses.Use.TheVariants.{First, Second}
+use Rattle.run_log.specs.Uses.{uses}
 
--- what the tables give for the same access: the walk of both stages as the registers and RAM are
+-- what the tables give for the same access of a machine that has the device page or not: the walk of both
+-- stages as the registers and RAM are
+abbrev pub leaf_by_tables : Bool → Virtual → List ℕ → Use → Option Leaf
+leaf_by_tables device virt ram (First e va access) = option_map leaf_of_first
+    (entry_walked (tag_of virt) (mmu_by_walk (ram_memory ram) virt.csrs virt.mode) virt va access)
+leaf_by_tables device virt ram (Second e address kind) =
+    option_map leaf_of_second (entry_by_walk device virt.csrs ram address kind)
+
 abbrev pub leaf_now : Machine → Use → Option Leaf
-leaf_now m (First e va access) = let virt = m.platform.virt in
-    option_map leaf_of_first
-    (entry_walked (tag_of virt) (mmu_by_walk (ram_memory m.ram) virt.csrs virt.mode) virt va access)
-leaf_now m (Second e address kind) =
-    option_map leaf_of_second (entry_by_walk m.device m.platform.virt.csrs m.ram address kind)
+leaf_now m used = leaf_by_tables m.device m.platform.virt m.ram used
 
--- a cached translation as the log names it
-abbrev pub translation_of : Machine → Use → Translation
-translation_of m (First e va access) = first_translation e
-translation_of m (Second e address kind) = second_translation m.platform.virt.csrs.hgatp e
+-- a cached translation as the log names it, of the second stage for this hgatp
+abbrev pub translation_of : GuestRoot → Use → Translation
+translation_of hgatp (First e va access) = first_translation e
+translation_of hgatp (Second e address kind) = second_translation hgatp e
+
+-- its frame
+abbrev pub cached_frame : Use → ℕ
+cached_frame (First e va access) = e.frame
+cached_frame (Second e address kind) = e.frame
 
 -- whether its use is stale: the access would have another frame, or be no access at all. Other rights that
 -- permit it, and another level, are no harm to it (own)
@@ -42,7 +53,7 @@ has_another_frame frame (Some leaf) = not (leaf.frame == frame)
 has_another_frame frame None = true
 
 abbrev pub is_stale : Machine → Use → Bool
-is_stale m used = has_another_frame (translation_of m used).leaf.frame (leaf_now m used)
+is_stale m used = has_another_frame (cached_frame used) (leaf_now m used)
 
 -- the last of the first n steps of which something holds
 abbrev pub last_where : (ℕ → Bool) → ℕ → Option ℕ
@@ -73,11 +84,11 @@ since_of origin from n hgatp used =
     last_where (λ i. nat_le from i && caches hgatp used (run origin i)) (steps_before_use n used)
 
 abbrev pub stale_line : Machine → ℕ → Seen → Use → Line
-stale_line origin from s used = line.Stale (record {
+stale_line origin from s used = let hgatp = s.tried.platform.virt.csrs.hgatp in line.Stale (record {
   head = head_of s;
-  used = translation_of s.tried used;
+  used = translation_of hgatp used;
   walked = leaf_now s.tried used;
-  since = since_of origin from s.number s.tried.platform.virt.csrs.hgatp used;
+  since = since_of origin from s.number hgatp used;
 })
 
 abbrev pub stale_line_if : Machine → ℕ → Seen → Use → List Line
