@@ -1,0 +1,46 @@
+-- A step of the log that has been made, and the lines of what it has cached.
+use Rattle.std.specs.Prelude.{◌≡◌, ◌+◌, ◌^◌, ◌<◌, ◌≤◌, Bool, List, ◌++◌, map}
+use Rattle.std.specs.Option.{option_to_list}
+use Rattle.arch_defs.specs.declared.cached.Entry.{Entry}
+use Rattle.guest_settings.specs.declared.statuses.Status.TheVariants.{Running}
+use Rattle.log_lines.specs.declared.kinds.Kinds.{Kinds}
+use Rattle.log_lines.specs.declared.lines.Line.{Line}
+use Rattle.machine_defs.specs.Freshness.{next_found}
+use Rattle.machine_defs.specs.Machine.{Machine}
+use Rattle.run_log.specs.Fills.{fill_line, first_translation, second_translation}
+use Rattle.run_log.specs.Log.{if_asked}
+use Rattle.run_log.specs.Seen.{Seen}
+use Rattle.run_log.specs.Traps.{step_events}
+use Rattle.step_logs.specs.Befores.{before_of}
+use Rattle.step_logs.specs.StepTexts.{IsOfStep, lines_from_steps}
+use Rattle.step_logs.specs.declared.befores.Before.{Before}
+use Rattle.step_logs.specs.declared.step_texts.Tried.{Tried}
+use Rattle.log_writer.specs.declared.steps.Made.{Made}
+
+-- the lines of translations of the second stage that it has cached
+abbrev pub second_lines : Bool → Seen → List Entry → List Line
+second_lines asked s entries = if_asked asked
+    (map (λ e. fill_line s (second_translation s.before.platform.virt.csrs.hgatp e)) entries)
+
+-- those of what it has cached of the first stage, and the others of the step
+abbrev pub lines_from_first : Kinds → Seen → List Line
+lines_from_first kinds s =
+    if_asked kinds.fills (map (λ e. fill_line s (first_translation e)) (next_found s.before))
+    ++ lines_from_steps kinds s
+
+-- a machine goes on, and its count of steps is far from its type's end
+pub record CanMakeStep (m : Machine) : Type 0 where
+  pub running : m.platform.status ≡ Running
+  pub early : m.platform.steps < 2 ^ 61
+
+-- what is kept is that of a step, which has been made with this last try
+pub record IsTriedStep (kinds : Kinds) (s : Seen) (kept : Before) (made : Tried) (m : Machine) : Type 0 where
+  pub own : IsOfStep kinds s kept made m
+  pub most : m.platform.steps ≤ s.before.platform.steps + 1
+
+-- a step has been made, and its lines have been put
+pub record HasBeenMade (s : Seen) (made : Made) (m : Machine) : Type 0 where
+  pub before : made.before ≡ before_of s.number s.before
+  pub events : step_events s ≡ option_to_list made.event
+  pub after : m ≡ s.after
+  pub most : m.platform.steps ≤ s.before.platform.steps + 1

@@ -1,0 +1,11 @@
+//! The log of the run of a machine, written step by step.
+#![tactic(auto)]
+
+mod counts;
+mod log_ends;
+mod logs;
+mod steps;
+
+pub use log_ends::LogEnd;
+pub use logs::log_of;
+pub use step_logs::{Act, Kinds, MadeAccess, MemoryValue, TryRunner};

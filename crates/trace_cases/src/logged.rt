@@ -1,0 +1,82 @@
+// A log that is asked for, and what it leaves.
+
+use crate::closing_sink::ClosingSink;
+use case_files::{Files, Script, ScriptedSink, ScriptedStore, words_in};
+use no_memory::NoMemory;
+use std::alloc::Global;
+use trace_top::trace;
+
+/// How it ends: the status, and the line on the stream of errors, or none.
+#[derive(Clone, Copy)]
+pub struct End<'a> {
+    pub status: u64,
+    pub line: &'a str,
+}
+
+/// What it has left.
+#[derive(Drop)]
+pub struct Left {
+    status: u64,
+    out: ClosingSink,
+    err: ScriptedSink,
+}
+
+/// What is asked for: the words, in two parts, and the files.
+#[derive(Clone, Copy)]
+pub struct Asked<'f, 'a> {
+    pub words: &'f str,
+    pub log: &'f str,
+    pub files: &'f Files<'a>,
+    pub script: Script<'a>,
+}
+
+impl Asked<'_, '_> {
+    /// Asks for it, on a stream that takes so many bytes.
+    pub fn answer(&self, alloc: Global, room: usize) -> Result<Left, NoMemory> {
+        let words = if self.script.wants_words {
+            Err(NoMemory)
+        } else {
+            let mut words = words_in(alloc, self.words)?;
+            words.append(&mut words_in(alloc, self.log)?)?;
+            Ok(words)
+        };
+        let mut store = ScriptedStore::new(alloc, self.files, self.script.store);
+        let mut out = ClosingSink::new(alloc, room);
+        let mut err = ScriptedSink::new(alloc, self.script.err);
+        let status = trace(alloc, words, &mut store, &mut out, &mut err);
+        Ok(Left {
+            status: u64::from(status),
+            out,
+            err,
+        })
+    }
+}
+
+impl Left {
+    /// Whether it has ended so.
+    pub fn is_ended(&self, end: End<'_>) -> bool {
+        self.status == end.status && is_line(self.err.bytes(), end.line)
+    }
+
+    pub fn status(&self) -> u64 {
+        self.status
+    }
+
+    /// What was put on the stream of the log.
+    pub fn out(&self) -> &[u8] {
+        self.out.bytes()
+    }
+
+    /// What was put on the stream of errors.
+    pub fn err(&self) -> &[u8] {
+        self.err.bytes()
+    }
+}
+
+// Whether bytes are a line, or none where it is empty.
+fn is_line(bytes: &[u8], line: &str) -> bool {
+    match bytes.strip_suffix(b"\n") {
+        Some(text) => text == line.as_bytes() && !text.is_empty(),
+        None => bytes.is_empty() && line.is_empty(),
+    }
+}

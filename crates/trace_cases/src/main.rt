@@ -1,0 +1,22 @@
+// Asks for logs as the cases of some files say, and prints where they differ. Standard input has the names of
+// the files.
+#![tactic(auto)]
+
+mod case;
+mod closing_sink;
+mod logged;
+mod outcome;
+mod saves;
+mod suite;
+
+use std::{fs, io};
+
+fn main(rt: HostRuntime) -> io::Result<()> {
+    for name in rt.lines(rt.alloc()) {
+        let name = name?;
+        let cases = fs::read_to_string(&rt, name.as_str())?;
+        let told = suite::told(rt.alloc(), name.as_str(), cases.as_str())?;
+        print!(rt; "{told}")?;
+    }
+    Ok(())
+}
