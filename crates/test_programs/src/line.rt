@@ -131,7 +131,8 @@ fn distance(from: u64, to: u64) -> u64
     to.wrapping_sub(from).wrapping_mul(4)
 }
 
-fn register(text: &str) -> Option<Reg> {
+/// The register of this name.
+pub(crate) fn register(text: &str) -> Option<Reg> {
     let number = match text.strip_prefix('x') {
         Some(digits) => u8::from_str_radix(digits, 10).ok()?,
         None => find(&REGISTERS, text)?,

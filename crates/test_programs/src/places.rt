@@ -1,6 +1,8 @@
 // Places of a state, by the numbers of the standard, and the bits of its registers (Privileged Architecture
 // 20211203, 2.2, 4.1 and 8.2).
 
+use crate::line::register;
+use crate::names::{CSRS, find};
 use arch_defs::{Csrs, Interrupts, Mode, Reg, Regs, Virtual};
 
 /// Where a value of a state stands.
@@ -16,6 +18,21 @@ pub enum At {
     Lines,
     /// What time shows with V = 0, which no write sets.
     Time,
+}
+
+/// The place of this name: a register as in assembly, `pc`, `mode`, `lines`, `time`, or a control and status
+/// register of HS.
+pub fn place_of(name: &str) -> Option<At> {
+    match name {
+        "pc" => Some(At::Pc),
+        "mode" => Some(At::Mode),
+        "lines" => Some(At::Lines),
+        "time" => Some(At::Time),
+        _ => match register(name) {
+            Some(register) => Some(At::X(register.number() as u8)),
+            None => Some(At::Csr(find(&CSRS, name)?)),
+        },
+    }
 }
 
 pub const SSTATUS: At = At::Csr(0x100);

@@ -1,8 +1,6 @@
-// Tests of the hart.
+// Tests of the hart that no row of text says.
 #![tactic(auto)]
 
-#[cfg(test)]
-mod accesses;
 #[cfg(test)]
 mod buffers;
 #[cfg(test)]
@@ -10,14 +8,4 @@ mod cases;
 #[cfg(test)]
 mod host_tables;
 #[cfg(test)]
-mod jumps;
-#[cfg(test)]
-mod refusals;
-#[cfg(test)]
 mod runs;
-#[cfg(test)]
-mod translation;
-#[cfg(test)]
-mod traps;
-#[cfg(test)]
-mod wanted_accesses;

@@ -1,6 +1,6 @@
 // Runs of one program after one another, and memory as bytes.
 
-use crate::cases::{CASE, Case, DATA, End, START, memory_of, stop_of};
+use crate::cases::{CASE, Case, memory_of, stop_at, stop_at_limit, trap};
 use rv64_hart::{Hart, Tally};
 use std::alloc::Global;
 use std::test::Fail;
@@ -11,8 +11,6 @@ use test_programs::places::value_at;
 // The words by hand, from the formats of the Unprivileged ISA 20191213, 2.3: I has imm[11:0] rs1 funct3 rd
 // opcode, U imm[31:12] rd opcode, J imm[20|10:1|11|19:12] rd opcode.
 const PROGRAM: Case = Case {
-    frames: 1,
-    tables: &[],
     code: &[
         ".word 0xFFF00293", // 00: addi x5, x0, -1     FFF 00000 000 00101 0010011
         ".word 0x80000337", // 04: lui x6, 0x80000     80000 00110 0110111
@@ -35,15 +33,15 @@ fn is_run(alloc: Global) -> Result<bool, LineFault> {
     let to_call = hart.run(&mut memory, 10, true, &mut tally);
     let state = &hart.state().virt;
     Ok(
-        none == stop_of(0, End::Limit)
-            && two == stop_of(2, End::Limit)
-            && between == Some(START + 8)
-            && to_call == stop_of(2, End::Exit(10, 0))
+        none == stop_at_limit(0)
+            && two == stop_at_limit(2)
+            && between == Some(8)
+            && to_call == stop_at(2, trap(10, 0))
             && value_at(state, X(5)) == Some(0xFFFF_FFFF_FFFF_FFFF)
             && value_at(state, X(6)) == Some(0xFFFF_FFFF_8000_0000)
-            && value_at(state, X(1)) == Some(START + 12)
+            && value_at(state, X(1)) == Some(12)
             && value_at(state, X(0)) == Some(0)
-            && value_at(state, Pc) == Some(START + 12)
+            && value_at(state, Pc) == Some(12)
             && tally.entries() == 3
             && tally.taken() == 4
             && tally.trace() == 0x2_804F_F744,
@@ -52,7 +50,7 @@ fn is_run(alloc: Global) -> Result<bool, LineFault> {
 
 // Bytes 1 to 8.
 const BYTES: Case = Case {
-    tables: &[],
+    frames: 2,
     code: &[".word 0x04030201", ".word 0x88070605"],
     ..CASE
 };
@@ -60,7 +58,7 @@ const BYTES: Case = Case {
 fn is_little_endian(alloc: Global) -> Result<bool, LineFault> {
     let memory = memory_of(alloc, &BYTES)?;
     Ok(
-        memory.size() == 2 * DATA
+        memory.size() == 0x2000
             && memory.load(1, 1) == 0x02
             && memory.load(2, 2) == 0x0403
             && memory.load(4, 4) == 0x8807_0605

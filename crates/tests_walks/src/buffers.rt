@@ -7,7 +7,7 @@ ghost use Rattle.std.specs.Prelude.{IfOk};
 ghost use Rattle.translation_buffer.specs.Serving.{ServesHart};
 
 use arch_defs::{
-    Access, Csrs, FirstEntry, GuestMode, GuestRoot, HartState, Mode, SupervisorMode,
+    Access, Csrs, Fence, FirstEntry, GuestMode, GuestRoot, HartState, Mode, SupervisorMode,
     SupervisorRoot, Tag, Virtual,
 };
 use phys_mem::{NoMemory, PhysMem};
@@ -120,6 +120,12 @@ enum Step {
     Fill(u64, u64),
     /// That many of other pages are cached.
     Crowd(u64),
+    /// A fence of the first stage, for the hart's own accesses, that names the page or any.
+    Fence(Option<u64>),
+    /// The page of an address becomes that of the last fetch, if it is kept for fetches.
+    Turn(u64),
+    /// The place of an instruction by the page of the last fetch, if it has one.
+    Has(u64, Option<u64>),
     /// Another turn, before which this doubleword was changed.
     BeginAgain(u64, u64),
 }
@@ -130,7 +136,7 @@ struct Case {
     steps: &'static [Step],
 }
 
-static CASES: [Case; 11] = [
+static CASES: [Case; 14] = [
     Case {
         name: "one walk serves all accesses of a kind to a page",
         start: SUPERVISOR,
@@ -304,6 +310,60 @@ static CASES: [Case; 11] = [
             Step::Walks(2),
         ],
     },
+    // The leaf of page 4_0003 is of 2^18 pages.
+    Case {
+        name: "a fence of a page drops what was kept for it, and one of a leaf of many pages all",
+        start: SUPERVISOR,
+        steps: &[
+            Step::Makes(Access::Load, 0x1008, Some(0xA008)),
+            Step::Makes(Access::Load, 0x4000_3008, Some(0xA008)),
+            Step::Fence(Some(1)),
+            Step::Makes(Access::Load, 0x1008, None),
+            Step::Finds(Access::Load, 0x4000_3010, 0xA010),
+            Step::Fence(Some(0x4_0004)),
+            Step::Makes(Access::Load, 0x4000_3010, None),
+            Step::Makes(Access::Fetch, 0x2010, Some(0xA010)),
+            Step::Fence(None),
+            Step::Makes(Access::Fetch, 0x2010, None),
+        ],
+    },
+    Case {
+        name: "the page of the last fetch has its instructions, until a store into its table",
+        start: SUPERVISOR,
+        steps: &[
+            Step::Makes(Access::Fetch, 0x2010, Some(0xA010)),
+            Step::Has(0x2010, None),
+            Step::Turn(0x2010),
+            Step::Has(0x2010, Some(0xA010)),
+            Step::Has(0x2FFC, Some(0xAFFC)),
+            Step::Has(0x2012, None),
+            Step::Has(0x3010, None),
+            Step::Store(0xA010, 5),
+            Step::Has(0x2014, Some(0xA014)),
+            Step::Store(0x9018, 0x2CDF),
+            Step::Has(0x2014, None),
+        ],
+    },
+    Case {
+        name: "another privilege, a fill and a restart forget the page of the last fetch",
+        start: SUPERVISOR,
+        steps: &[
+            Step::Makes(Access::Fetch, 0x2010, Some(0xA010)),
+            Step::Turn(0x2010),
+            Step::Enter(USER),
+            Step::Has(0x2010, None),
+            Step::Enter(SUPERVISOR),
+            Step::Turn(0x2010),
+            Step::Has(0x2010, Some(0xA010)),
+            Step::Fill(2, 6),
+            Step::Has(0x2010, None),
+            Step::Makes(Access::Fetch, 0x2010, Some(0xB010)),
+            Step::Turn(0x2010),
+            Step::Has(0x2010, Some(0xB010)),
+            Step::BeginAgain(0x9030, 0x28DF),
+            Step::Has(0x2010, None),
+        ],
+    },
 ];
 
 // The place of a load from page 1 after a store to an entry at any level, or to data.
@@ -414,6 +474,30 @@ fn store(t: &mut Trial, at: u64, word: u64)
     }
 }
 
+fn fence(t: &mut Trial, page: Option<u64>)
+    requires { ServesHart t.old.buffer t.old.state t.old.memory }
+    ensures { ServesHart t.new.buffer t.new.state t.new.memory }
+{
+    let fence = Fence { vmid: None, page };
+    let state = &mut t.state;
+    let virt = &mut state.virt;
+    t.buffer
+        .fence(&mut virt.first, state.tag, &fence, &virt.csrs, virt.mode);
+}
+
+fn turn(t: &mut Trial, va: u64)
+    requires { ServesHart t.old.buffer t.old.state t.old.memory }
+    ensures { ServesHart t.new.buffer t.new.state t.new.memory }
+{
+    t.buffer.turn(va);
+}
+
+fn has(t: &Trial, va: u64) -> Option<u64>
+    requires { ServesHart t.now.buffer t.now.state t.now.memory }
+{
+    t.buffer.here(&t.memory, &t.state, va)
+}
+
 fn begin_again(t: &mut Trial, at: u64, word: u64)
     ensures { ServesHart t.new.buffer t.new.state t.new.memory }
 {
@@ -449,6 +533,9 @@ fn is_made(t: &mut Trial, step: Step) -> bool
             },
         ),
         Step::Crowd(count) => crowd(t, count),
+        Step::Fence(page) => fence(t, page),
+        Step::Turn(va) => turn(t, va),
+        Step::Has(va, place) => return has(t, va) == place,
         Step::BeginAgain(at, word) => begin_again(t, at, word),
     }
     true

@@ -5,7 +5,7 @@ ghost use Rattle.arch_defs.specs.Frames.{LieIn, in_blocks};
 
 use crate::forms::End::{Done, Fault, Refused};
 use crate::forms::{End, HLV_BU, HLVX_HU, Made, Row, expected, op_of, state_after, state_before};
-use crate::states::{At, HGATP, HSTATUS, HU, MXR, SPVP, SSTATUS, VSSTATUS, are_same};
+use crate::states::{HGATP, HSTATUS, HU, MXR, SPVP, SSTATUS, VSSTATUS, are_same};
 use arch_defs::{Mode, Part, Virtual};
 use console_dev::Console;
 use hlv_hsv::{Accessed, Op, access};
@@ -31,72 +31,68 @@ fn has_tables(ram: &mut Ram) -> bool
 struct InRam {
     name: &'static str,
     mode: Mode,
-    given: &'static [(At, u64)],
+    given: &'static [(u16, u64)],
     made: Made,
     end: End,
 }
 
-const RAM_ROOT: (At, u64) = (At::Csr(HGATP), 0x8000_1000_0008_0004);
+const RAM_ROOT: (u16, u64) = (HGATP, 0x8000_1000_0008_0004);
 
 // HLV.BU x10, (x11) is 0110000 00001 01011 100 01010 1110011.
 static IN_RAM: [InRam; 8] = [
     InRam {
         name: "HLV.BU",
         mode: Mode::HS,
-        given: &[RAM_ROOT, (At::Csr(HSTATUS), SPVP)],
+        given: &[RAM_ROOT, (HSTATUS, SPVP)],
         made: HLV_BU,
         end: Fault(21, 0x400),
     },
     InRam {
         name: "HLVX.HU",
         mode: Mode::HS,
-        given: &[RAM_ROOT, (At::Csr(HSTATUS), SPVP)],
+        given: &[RAM_ROOT, (HSTATUS, SPVP)],
         made: HLVX_HU,
         end: Done(65),
     },
     InRam {
         name: "HLV.BU with vsstatus.MXR",
         mode: Mode::HS,
-        given: &[RAM_ROOT, (At::Csr(HSTATUS), SPVP), (At::Csr(VSSTATUS), MXR)],
+        given: &[RAM_ROOT, (HSTATUS, SPVP), (VSSTATUS, MXR)],
         made: HLV_BU,
         end: Fault(21, 0x400),
     },
     InRam {
         name: "HLVX.HU with vsstatus.MXR",
         mode: Mode::HS,
-        given: &[RAM_ROOT, (At::Csr(HSTATUS), SPVP), (At::Csr(VSSTATUS), MXR)],
+        given: &[RAM_ROOT, (HSTATUS, SPVP), (VSSTATUS, MXR)],
         made: HLVX_HU,
         end: Done(65),
     },
     InRam {
         name: "HLV.BU with sstatus.MXR",
         mode: Mode::HS,
-        given: &[RAM_ROOT, (At::Csr(HSTATUS), SPVP), (At::Csr(SSTATUS), MXR)],
+        given: &[RAM_ROOT, (HSTATUS, SPVP), (SSTATUS, MXR)],
         made: HLV_BU,
         end: Done(65),
     },
     InRam {
         name: "HLVX.HU with sstatus.MXR",
         mode: Mode::HS,
-        given: &[RAM_ROOT, (At::Csr(HSTATUS), SPVP), (At::Csr(SSTATUS), MXR)],
+        given: &[RAM_ROOT, (HSTATUS, SPVP), (SSTATUS, MXR)],
         made: HLVX_HU,
         end: Done(65),
     },
     InRam {
         name: "HLV.BU in U",
         mode: Mode::U,
-        given: &[RAM_ROOT, (At::Csr(HSTATUS), SPVP), (At::Csr(SSTATUS), MXR)],
+        given: &[RAM_ROOT, (HSTATUS, SPVP), (SSTATUS, MXR)],
         made: HLV_BU,
         end: Refused(2, 0x6015_C573),
     },
     InRam {
         name: "HLV.BU in U with HU",
         mode: Mode::U,
-        given: &[
-            RAM_ROOT,
-            (At::Csr(HSTATUS), SPVP + HU),
-            (At::Csr(SSTATUS), MXR),
-        ],
+        given: &[RAM_ROOT, (HSTATUS, SPVP + HU), (SSTATUS, MXR)],
         made: HLV_BU,
         end: Done(65),
     },

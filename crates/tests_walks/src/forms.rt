@@ -1,40 +1,25 @@
 // HLV, HLVX and HSV as rows of tables have them, and how each ends.
 
-use self::End::{Done, Fault, Implicit, Refused};
-use crate::states::{At, START, state_with};
+use self::End::{Done, Fault, Refused};
+use crate::states::{START, state_with};
 use arch_defs::{Mode, Reg, Trap, Virtual, Width};
 use console_dev::Console;
 use hlv_hsv::{Accessed, Op, access};
 use phys_mem::PhysMem;
 use rv64_asm::fits;
 
-/// An instruction with its address in x11: into x10, into x0, or a value from x12.
+/// An instruction with its address in x11: into x10, or a value from x12.
 #[derive(Clone, Copy)]
 pub enum Made {
     Hlv(Width),
     HlvUnsigned(Width),
-    HlvToZero(Width),
     Hlvx(Width),
     Hsv(Width, u64),
 }
 
-pub const HLV_B: Made = Made::Hlv(Width::Byte);
-
 pub const HLV_BU: Made = Made::HlvUnsigned(Width::Byte);
 
-pub const HLV_H: Made = Made::Hlv(Width::Half);
-
-pub const HLV_HU: Made = Made::HlvUnsigned(Width::Half);
-
-pub const HLV_W: Made = Made::Hlv(Width::Word);
-
-pub const HLV_WU: Made = Made::HlvUnsigned(Width::Word);
-
-pub const HLV_D: Made = Made::Hlv(Width::Double);
-
 pub const HLVX_HU: Made = Made::Hlvx(Width::Half);
-
-pub const HLVX_WU: Made = Made::Hlvx(Width::Word);
 
 /// How it ends.
 #[derive(Clone, Copy)]
@@ -43,8 +28,6 @@ pub enum End {
     Done(u64),
     /// A trap of this cause with this tval2. It changes nothing.
     Fault(u64, u64),
-    /// The same of an implicit read.
-    Implicit(u64, u64),
     /// A trap of this cause with this word of the instruction, which the mode does not allow.
     Refused(u64, u64),
 }
@@ -53,14 +36,14 @@ pub enum End {
 #[derive(Clone, Copy)]
 pub struct Row(pub Made, pub u64, pub End);
 
-fn trap(cause: u64, tval: u64, tval2: u64, is_implicit: bool, gva: bool) -> Accessed {
+fn trap(cause: u64, tval: u64, tval2: u64, gva: bool) -> Accessed {
     Accessed::Raise(Trap {
         cause,
         interrupt: false,
         tval,
         tval2,
         gva,
-        implicit: is_implicit,
+        implicit: false,
     })
 }
 
@@ -68,9 +51,8 @@ fn trap(cause: u64, tval: u64, tval2: u64, is_implicit: bool, gva: bool) -> Acce
 pub fn expected(va: u64, end: End) -> Accessed {
     match end {
         Done(_) => Accessed::Done,
-        Fault(cause, tval2) => trap(cause, va, tval2, false, true),
-        Implicit(cause, tval2) => trap(cause, va, tval2, true, true),
-        Refused(cause, word) => trap(cause, word, 0, false, false),
+        Fault(cause, tval2) => trap(cause, va, tval2, true),
+        Refused(cause, word) => trap(cause, word, 0, false),
     }
 }
 
@@ -78,9 +60,8 @@ pub fn expected(va: u64, end: End) -> Accessed {
 pub fn op_of(made: Made) -> Op {
     let (rd, rs1) = (Reg::new(10), Reg::new(11));
     match made {
-        Made::Hlv(width) => load(width, true, rd),
-        Made::HlvUnsigned(width) => load(width, false, rd),
-        Made::HlvToZero(width) => load(width, true, Reg::new(0)),
+        Made::Hlv(width) => load(width, true),
+        Made::HlvUnsigned(width) => load(width, false),
         Made::Hlvx(width) => Op::GuestFetch { width, rd, rs1 },
         Made::Hsv(width, _) => Op::GuestStore {
             width,
@@ -90,17 +71,17 @@ pub fn op_of(made: Made) -> Op {
     }
 }
 
-fn load(width: Width, signed: bool, rd: Reg) -> Op {
+fn load(width: Width, signed: bool) -> Op {
     Op::GuestLoad {
         width,
         signed,
-        rd,
+        rd: Reg::new(10),
         rs1: Reg::new(11),
     }
 }
 
 /// The state before a row. What is reserved stays.
-pub fn state_before(mode: Mode, given: &[(At, u64)], row: &Row) -> Virtual {
+pub fn state_before(mode: Mode, given: &[(u16, u64)], row: &Row) -> Virtual {
     let mut state = state_with(mode, given);
     state.regs.x[10] = 7;
     state.regs.x[11] = row.1;

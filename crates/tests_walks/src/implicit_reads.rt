@@ -3,93 +3,31 @@
 ghost use Rattle.std.specs.Prelude.{length};
 ghost use Rattle.arch_defs.specs.Frames.{LieIn, in_blocks};
 
-use crate::translations::{GUEST_ROOT, TABLES, answer, csrs_for, trap};
-use arch_defs::{Access, Mode, Part, Regs, Trap};
+use arch_defs::{
+    Access, Csrs, GuestMode, GuestRoot, Mode, Part, Regs, SupervisorMode, SupervisorRoot, Trap,
+};
 use phys_mem::{Mem, PhysMem, Ram};
 use std::test::Fail;
-use test_memory::{memory, part, with_words};
+use test_memory::{memory, part};
 use trap_delegation::enter_hs;
 use two_stage_walk::translate;
 
-// vsatp's root at a guest page, the codes of the faults of a fetch, a load and a store, and tval2, the
-// entry's guest physical address divided by 4, of a guest page fault.
-struct RootElsewhere {
-    name: &'static str,
-    page: u64,
-    fetch: u64,
-    load: u64,
-    store: u64,
-    tval2: u64,
-}
-
-static ROOTS_ELSEWHERE: [RootElsewhere; 5] = [
-    RootElsewhere {
-        name: "no page",
-        page: 2,
-        fetch: 20,
-        load: 21,
-        store: 23,
-        tval2: 0x802,
-    },
-    RootElsewhere {
-        name: "past memory",
-        page: 4,
-        fetch: 1,
-        load: 5,
-        store: 7,
-        tval2: 0,
-    },
-    RootElsewhere {
-        name: "without U",
-        page: 5,
-        fetch: 20,
-        load: 21,
-        store: 23,
-        tval2: 0x1402,
-    },
-    RootElsewhere {
-        name: "only to be executed",
-        page: 6,
-        fetch: 20,
-        load: 21,
-        store: 23,
-        tval2: 0x1802,
-    },
-    RootElsewhere {
-        name: "with D clear",
-        page: 7,
-        fetch: 12,
-        load: 13,
-        store: 15,
-        tval2: 0,
-    },
-];
-
-// The fault is the access's, and its tval the virtual address. MXR has no part in it (own).
-fn implicit_read_is_right(memory: &PhysMem, case: &RootElsewhere) -> bool {
-    let mut csrs = csrs_for(GUEST_ROOT, Some(case.page));
-    csrs.hs.status.mxr = true;
-    for (access, cause) in [
-        (Access::Fetch, case.fetch),
-        (Access::Load, case.load),
-        (Access::ExecLoad, case.load),
-        (Access::Store, case.store),
-    ] {
-        let fault = trap(cause, 0x4000_5678, case.tval2, case.tval2 != 0);
-        if answer(memory, &csrs, Mode::VU, 0x4000_5678, access) != Err(fault) {
-            return false;
-        }
+// The registers of a guest whose hgatp names this page, and whose vsatp names that one, if any.
+fn csrs_for(guest_page: u64, page: Option<u64>) -> Csrs {
+    let mut csrs = Csrs::at_reset();
+    csrs.hgatp = GuestRoot::Table {
+        mode: GuestMode::Sv39x4,
+        vmid: 1,
+        ppn: guest_page,
+    };
+    if let Some(ppn) = page {
+        csrs.vs.atp = SupervisorRoot::Table {
+            mode: SupervisorMode::Sv39,
+            asid: 0,
+            ppn,
+        };
     }
-    true
-}
-
-#[test]
-fn implicit_reads(rt: HostRuntime) -> Result<(), Fail> {
-    let memory = with_words(rt.alloc(), &TABLES)?;
-    for case in &ROOTS_ELSEWHERE {
-        assert!(rt; implicit_read_is_right(&memory, case), "{}", case.name);
-    }
-    Ok(())
+    csrs
 }
 
 // The tables of a nested guest in RAM: hgatp's root at 80004000, a table at 80008000, one at 80009000, and in
@@ -109,7 +47,7 @@ fn fetched(ram: &Ram, page: Option<u64>) -> Result<u64, Trap>
 {
     translate(
         ram,
-        &csrs_for(Some(0x8_0004), page),
+        &csrs_for(0x8_0004, page),
         Mode::VS,
         0,
         Access::Fetch,
@@ -122,8 +60,15 @@ fn fetched(ram: &Ram, page: Option<u64>) -> Result<u64, Trap>
 fn is_implicit_fault(ram: &Ram, page: u64, htval: u64, htinst: u64) -> bool
     requires { LieIn (in_blocks ram.now.part.now.blocks) (length ram.now.mem.now) }
 {
-    let fault = trap(20, 0, htval, true);
-    let mut csrs = csrs_for(Some(0x8_0004), Some(page));
+    let fault = Trap {
+        cause: 20,
+        interrupt: false,
+        tval: 0,
+        tval2: htval,
+        gva: true,
+        implicit: true,
+    };
+    let mut csrs = csrs_for(0x8_0004, Some(page));
     let mut regs = Regs::starting_at(0);
     enter_hs(&mut csrs, &mut regs, Mode::VS, &fault);
     fetched(ram, Some(page)) == Err(fault) && csrs.htval == htval && csrs.htinst == htinst
