@@ -7,7 +7,7 @@ import subprocess
 import tempfile
 from collections.abc import Callable
 
-from nesthv_tools import faults, reports
+from nesthv_tools import children, faults, reports
 
 FIRST = 10_000_000  # steps: about a second
 FACTOR = 4
@@ -59,8 +59,8 @@ def show(program: str, path: str, folder: str, document: faults.Table, say: Call
         with tempfile.NamedTemporaryFile("w", suffix=".toml", encoding="utf-8") as file:
             file.write(capped(document, steps))
             file.flush()
-            ran = subprocess.run([program, "run", os.path.abspath(file.name)], cwd=folder,
-                                 capture_output=True)
+            ran = children.complete([program, "run", os.path.abspath(file.name)], cwd=folder,
+                                    stdout=subprocess.PIPE, stderr=subprocess.PIPE)
         sections = reports.sections_of(ran.stdout) if ran.returncode == 0 else None
         if sections is None:
             return

@@ -1,6 +1,7 @@
 """How a tool begins and ends: with the standard streams open, and with a status for each way in which it
 fails.
 """
+import contextlib
 import importlib
 import os
 import signal
@@ -9,9 +10,11 @@ from collections.abc import Callable
 from types import FrameType
 from typing import NoReturn
 
-from nesthv_tools import children, places, streams
+from nesthv_tools import children, endings, places, streams
 
-INTERRUPTED = 130
+ENDS = (signal.SIGINT, signal.SIGTERM, signal.SIGHUP)
+INTERRUPTED = 128 + signal.SIGINT
+AGAIN = 0.05  # seconds until an exception that was dropped is raised again
 
 
 def commands() -> list[str]:
@@ -33,10 +36,35 @@ def command(name: str) -> NoReturn:
     run(main, failed)
 
 
-def end_by_signal(number: int, frame: FrameType | None) -> NoReturn:
-    """Ends as after an error, so that no temporary folder and no program is left."""
-    children.end()
-    sys.exit(128 + number)
+def end_by_signal(number: int, frame: FrameType | None) -> None:
+    """Ends as after an error, so that no temporary folder and no program is left. Later signals change
+    nothing."""
+    if not endings.STATUS:
+        endings.STATUS.append(128 + number)
+        children.end()
+        endings.leave()
+
+
+def leave_again(number: int, frame: FrameType | None) -> None:
+    endings.leave()
+
+
+def take_dropped(dropped: "sys.UnraisableHookArgs") -> None:
+    """Takes an exception that Python drops, as it does each one of a finalizer. That of a signal is raised
+    again."""
+    if endings.STATUS and isinstance(dropped.exc_value, SystemExit):
+        signal.setitimer(signal.ITIMER_REAL, AGAIN)
+    else:
+        sys.__unraisablehook__(dropped)
+
+
+def take_signals() -> None:
+    """Has signals end this process, but for those that it is to ignore, as under `nohup`."""
+    sys.unraisablehook = take_dropped
+    signal.signal(signal.SIGALRM, leave_again)
+    for number in ENDS:
+        if signal.getsignal(number) != signal.SIG_IGN:
+            signal.signal(number, end_by_signal)
 
 
 def status_of(main: Callable[[], int], failed: Callable[[], int]) -> int:
@@ -44,9 +72,6 @@ def status_of(main: Callable[[], int], failed: Callable[[], int]) -> int:
         return main()
     except SystemExit as ended:  # of argparse, and of a signal
         return ended.code if isinstance(ended.code, int) else int(ended.code is not None)
-    except KeyboardInterrupt:
-        streams.say("interrupted")
-        return INTERRUPTED
     except BrokenPipeError:
         streams.say("the output could not be written: the program that reads the pipe has ended")
     except OSError as error:
@@ -61,16 +86,29 @@ def words_of(error: OSError) -> str:
     return f"the output could not be written: {error.strerror or error}"
 
 
-def run(main: Callable[[], int], failed: Callable[[], int] = lambda: 2) -> NoReturn:
-    """Ends the process with the status that `main` returns, or with that of `failed` where a file or stream
-    fails."""
-    for number in (signal.SIGTERM, signal.SIGHUP):
-        if signal.getsignal(number) == signal.SIG_DFL:
-            signal.signal(number, end_by_signal)
-    streams.hold()
+def written(main: Callable[[], int], failed: Callable[[], int]) -> int:
+    """The status of `main`, whose output is written."""
     status = status_of(main, failed)
-    error = streams.flush()
+    error = None if endings.STATUS else streams.flush()
     if error and not status:
         streams.say(f"the output could not be written: {error.strerror}")
-        status = failed()
+        return failed()
+    return status
+
+
+def run(main: Callable[[], int], failed: Callable[[], int] = lambda: 2) -> NoReturn:
+    """Ends the process with the status that `main` returns, with that of `failed` where a file or stream
+    fails, or with 128 and the number of a signal that came."""
+    take_signals()
+    streams.hold()
+    status = 0
+    with contextlib.suppress(SystemExit):  # of a signal that came after `main`
+        status = written(main, failed)
+    for number in (signal.SIGALRM, *ENDS):
+        signal.signal(number, signal.SIG_IGN)
+    if endings.STATUS:
+        status, = endings.STATUS
+        streams.drop()
+        if status == INTERRUPTED:
+            streams.say("interrupted")
     sys.exit(status)

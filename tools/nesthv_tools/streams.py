@@ -48,6 +48,11 @@ def check_output() -> None:
         raise OSError(errno.EBADF, os.strerror(errno.EBADF), OUTPUT)
 
 
+def drop() -> None:
+    """Drops what was printed and is not yet written: to write it may wait for good."""
+    os.dup2(os.open(os.devnull, os.O_WRONLY), 1)
+
+
 def flush() -> OSError | None:
     """Writes all that was printed, and gives the error of standard output. What cannot be written is
     dropped."""

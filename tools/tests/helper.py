@@ -40,9 +40,11 @@ def compiled():
 COMPILED = compiled()
 
 
-def take_interrupts():
-    """In a new process: takes SIGINT, which a shell may have its commands in the background ignore."""
-    signal.signal(signal.SIGINT, signal.SIG_DFL)
+def take_signals():
+    """In a new process: takes signals that it may have been told to ignore, as SIGINT in a shell's background
+    and SIGHUP under `nohup`."""
+    for number in (signal.SIGINT, signal.SIGTERM, signal.SIGHUP):
+        signal.signal(number, signal.SIG_DFL)
 
 
 class ToolTest(unittest.TestCase):
