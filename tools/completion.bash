@@ -83,12 +83,32 @@ _nesthv_debug() {
     fi
 }
 
+_nesthv_profile() {
+    case $3 in --from | --to | --steps | --blocks | --spaces | --entries | --console) return ;; esac
+    if [[ $3 == *.toml ]] && [[ $2 != -* ]]; then
+        mapfile -t COMPREPLY < <(compgen -W "$(_nesthv_guests "$3")" -- "$2")
+    else
+        _nesthv_files "--callgrind --lcov --exits --timeline --svg --from --to --no-modes --log --trace --hs --vs
+            $_nesthv_image" "$2"
+    fi
+}
+
 _nesthv_gdb() {
     compopt -o filenames
     if [ "$COMP_CWORD" -eq 1 ]; then
         mapfile -t COMPREPLY < <(compgen -d -- "$2"; compgen -f -X '!*.toml' -- "$2")
     elif [ "$COMP_CWORD" -eq 2 ]; then
         mapfile -t COMPREPLY < <(compgen -W "$(_nesthv_guests "$3")" -- "$2")
+    fi
+}
+
+_nesthv_trace() {
+    local kinds='traps worlds calls fences fills steps counts' before=
+    if [ "$COMP_CWORD" -lt 3 ]; then
+        _nesthv_gdb "$@"
+    elif [ "$COMP_CWORD" -eq 3 ]; then
+        case $2 in *,*) before=${2%,*}, ;; esac
+        mapfile -t COMPREPLY < <(compgen -P "$before" -W "$kinds" -- "${2##*,}")
     fi
 }
 
@@ -124,6 +144,8 @@ complete -F _nesthv_inputs nesthv-inputs tools/inputs
 complete -F _nesthv_saved nesthv-saved tools/saved
 complete -F _nesthv_batch nesthv-batch tools/batch
 complete -F _nesthv_debug nesthv-debug tools/debug
+complete -F _nesthv_profile nesthv-profile tools/profile
 complete -F _nesthv_gdb nesthv-gdb dist/nesthv-gdb
+complete -F _nesthv_trace nesthv-trace dist/nesthv-trace
 complete -F _nesthv_qemu_run nesthv-qemu-run tools/qemu-run
 complete -F _nesthv_run nesthv-run examples/run ./run tools/run

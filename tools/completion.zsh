@@ -1,4 +1,4 @@
-#compdef nesthv nesthv-gdb nesthv-run nesthv-look nesthv-debug nesthv-batch nesthv-inputs nesthv-saved nesthv-qemu-run
+#compdef nesthv nesthv-gdb nesthv-trace nesthv-run nesthv-look nesthv-debug nesthv-profile nesthv-batch nesthv-inputs nesthv-saved nesthv-qemu-run
 # Completion of zsh for nesthv and its tools. tools/install puts it into share/zsh/site-functions.
 
 local -a image
@@ -15,6 +15,10 @@ image=(
 case $service in
 nesthv) _arguments "1:command:(run replay check work save)" "2:configuration:_files -g '*.toml'" "3:file:_files" ;;
 nesthv-gdb) _arguments "1:configuration:_files -g '*.toml'" "2:guest:" ;;
+nesthv-trace)
+    _arguments "1:configuration:_files -g '*.toml'" "2:guest:" \
+        '3:kinds:_values -s , kind traps worlds calls fences fills steps counts' '4:first step:' '5:last step:'
+    ;;
 nesthv-run)
     _arguments '--help[say what it does]' \
         '--program[the program to take]:file:_files' \
@@ -49,6 +53,23 @@ nesthv-debug)
         '--print[print gdb'\''s command]' \
         '--gdb[the gdb to take]:word:' \
         '--stub[the nesthv-gdb to take]:file:_files' \
+        "${image[@]}" \
+        '1:configuration:_files' '2:guest:'
+    ;;
+nesthv-profile)
+    _arguments '--help[say what it does]' \
+        '--callgrind[write a profile for callgrind_annotate]:file:_files' \
+        '--lcov[write coverage for genhtml]:file:_files' \
+        '--exits[print a table of exits]' \
+        '--timeline[write a timeline for Perfetto]:file:_files' \
+        '--svg[draw the timeline into this file]:file:_files' \
+        '--from[the first step]:number:' \
+        '--to[the step behind the last]:number:' \
+        '--no-modes[do not tell VS from VU]' \
+        '--log[read a log that is there]:file:_files' \
+        '--trace[the nesthv-trace to take]:file:_files' \
+        '--hs[an ELF file of HS and U]:file:_files' \
+        '--vs[an ELF file of VS and VU]:file:_files' \
         "${image[@]}" \
         '1:configuration:_files' '2:guest:'
     ;;

@@ -1,13 +1,11 @@
-"""The stub nesthv-gdb, and the command of gdb by which a guest is debugged."""
+"""The command of gdb by which a guest is debugged, and the ELF files of its worlds."""
 import glob
 import os
 import shlex
 from typing import NamedTuple
 
-from nesthv_tools import children, elf_images, places, programs
+from nesthv_tools import children, elf_images, places
 
-BUILT = os.path.join(places.TOP, "crates", "nesthv_gdb", "out", "nesthv_gdb")
-INSTALLED = os.path.join(places.TOP, "..", "..", "bin", "nesthv-gdb")
 SCRIPT = os.path.join(places.TOOLS, "debug.gdb")
 SHORTEST = 64  # bytes of a nested guest that are looked for in an image
 SECONDS = 600  # of one answer of the stub
@@ -27,14 +25,6 @@ class Worlds(NamedTuple):
     it."""
     own: World | None
     nested: list[World]
-
-
-def stub(path: str | None = None) -> str | None:
-    """The path of nesthv-gdb: the one that is named, else that of where tools/install has put the tools, else
-    that of dist/, else the one that rt has built; or none."""
-    kept = os.path.join(places.DIST, "nesthv-gdb")
-    candidates = [path] if path else [INSTALLED, kept, BUILT]
-    return next((os.path.abspath(each) for each in candidates if programs.is_program(each)), None)
 
 
 def world_at(path: str) -> World | None:

@@ -15,8 +15,10 @@ ROW, LEAST, SPACE, TOP, LETTER = 20, 250, 130, 30, 7.4  # LETTER is the width of
 MOST, MOST_NAMES = 200, 4  # boxes of a column; tables in a box of RAM
 COLOURS = ["#3566b0", "#b06a1f", "#3f8f4f", "#8a4fa0", "#a8873a", "#2f8f95"]
 GREY = "#777777"
-STYLE = "text{font:12px monospace}.stale{fill:none;stroke:#c22;stroke-width:1.5;stroke-dasharray:4 3}" \
-    ".title{font-weight:bold}.band{fill-opacity:.3;stroke-opacity:.6}"
+RED = "#c22"
+TEXT, BOLD = "text{font:12px monospace}", ".title{font-weight:bold}"
+STYLE = f"{TEXT}.stale{{fill:none;stroke:{RED};stroke-width:1.5;stroke-dasharray:4 3}}{BOLD}" \
+    ".band{fill-opacity:.3;stroke-opacity:.6}"
 STALE = "dashed: a cached translation that is stale"
 PRESENT = "present: hgatp names this table now"
 UNITS = ((1 << 30, "GiB"), (1 << 20, "MiB"), (1 << 10, "KiB"), (1, "bytes"))
@@ -192,12 +194,17 @@ class Drawing:
         texts += [f'<text x="14" y="{bottom + ROW * number}">{line}</text>'
                   for number, line in enumerate(legend, 1)]
         height = bottom + ROW * len(legend) + ROW // 2
-        size = f'width="{width}" height="{height}"'
-        head = f'<svg xmlns="http://www.w3.org/2000/svg" {size} viewBox="0 0 {width} {height}">'
         bands = (band.part() for band in self.bands if band.left in columns and band.right in columns)
-        return "\n".join([f"{head}<title>{title}</title><style>{STYLE}</style>",
-                          f'<rect {size} fill="#fff"/>', *texts, *bands,
-                          *(part for column in columns for part in column.parts()), "</svg>"]) + "\n"
+        parts = [*texts, *bands, *(part for column in columns for part in column.parts())]
+        return picture(title, STYLE, width, height, parts)
+
+
+def picture(title: str, style: str, width: int, height: int, parts: list[str]) -> str:
+    """A picture of these parts, on white."""
+    size = f'width="{width}" height="{height}"'
+    head = f'<svg xmlns="http://www.w3.org/2000/svg" {size} viewBox="0 0 {width} {height}">'
+    return "\n".join([f"{head}<title>{title}</title><style>{style}</style>", f'<rect {size} fill="#fff"/>',
+                      *parts, "</svg>"]) + "\n"
 
 
 def svg_of(found: Map) -> str:

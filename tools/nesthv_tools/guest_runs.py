@@ -7,12 +7,11 @@ import hashlib
 import itertools
 import os
 import subprocess
-import tempfile
-from collections.abc import Iterator
+from collections.abc import Iterable, Iterator
 
 from nesthv_tools import (
-    children, faults, foretold_steps, parallel, progress, records, reports, saves, state_cache,
-    state_files, stubs)
+    children, endings, event_logs, faults, foretold_steps, parallel, progress, records, reports, saves,
+    state_cache, state_files, stubs, tracers)
 
 KEPT_IN_MEMORY, KEPT_IN_FILES = 8, 4  # states
 AT_ONCE = 256  # single steps from one state
@@ -35,8 +34,8 @@ def checked(program: str, path: str, folder: str) -> None:
     """Has the program test a configuration, and says in words what it finds."""
     place = os.path.join(".", os.path.basename(path))
     try:
-        ran = subprocess.run([program, "check", place], cwd=folder, env=children.environment(),
-                             stdin=subprocess.DEVNULL, capture_output=True)
+        ran = children.complete([program, "check", place], cwd=folder, env=children.environment(),
+                                stdin=subprocess.DEVNULL, stdout=subprocess.PIPE, stderr=subprocess.PIPE)
     except OSError as error:
         raise Unusable(f"{program} cannot be run: {error.strerror}") from None
     if ran.returncode:
@@ -108,8 +107,8 @@ class Runs:
 
     def __init__(self, program: str, guest: Guest, cache: state_cache.Cache) -> None:
         self.program, self.guest, self.cache = program, guest, cache
-        self.stub = stubs.beside(program)
-        self.folder = tempfile.TemporaryDirectory(prefix="nesthv-look-")
+        self.stub, self.tracer = stubs.beside(program), tracers.beside(program)
+        self.folder = endings.Folder("nesthv-look-")
         self.numbers, self.calls = itertools.count(), 0
         self.known: collections.OrderedDict[int, saves.Saved] = collections.OrderedDict()
         for name, data in guest.files.items():
@@ -248,6 +247,14 @@ class Runs:
                 yield from parallel.in_order(line.at, range(step + 1, until + 1))
             step = until
 
+    def logged(self, kinds: Iterable[str], start: int, end: int) -> Iterator[event_logs.Line]:
+        """The lines of these kinds in the log of the run, from a step on, up to a second one. Their steps are
+        those of the guest."""
+        before, saved = self.last_before(start + 1)
+        with Line(self, before, saved) as line:
+            for each in line.logged(kinds, start - before, end - before):
+                yield each._replace(step=each.step + before)
+
     def stepped(self, start: int, end: int) -> Iterator[saves.Saved]:
         """The states behind a step, up to a second one, by the stub."""
         state = self.at(start)
@@ -297,6 +304,22 @@ class Line:
     def at(self, step: int) -> saves.Saved:
         """The state at this step."""
         return self.runs.saved_of(self.call("save", step))
+
+    def logged(self, kinds: Iterable[str], start: int, end: int) -> Iterator[event_logs.Line]:
+        """The lines of these kinds in the log of the run, whose first step is 0."""
+        assert self.runs.tracer
+        own = self.files.get(self.start)
+        name = self.runs.put_config(self.keys(own) if own else self.runs.guest.keys, end)
+        guest = tracers.Guest(self.runs.path(name), self.runs.folder.name, name, 0)
+        self.runs.calls += 1
+        try:
+            with tracers.log_of(self.runs.tracer, guest, tracers.words_of(set(kinds), start, end)) as file:
+                yield from event_logs.Log(file, "the log")
+        except (tracers.Refused, event_logs.Wrong) as why:
+            raise Unusable(str(why)) from None
+        finally:
+            with contextlib.suppress(FileNotFoundError):
+                os.remove(self.runs.path(name))
 
     @contextlib.contextmanager
     def stub(self, end: int) -> Iterator[stubs.Stub]:

@@ -4,11 +4,10 @@ import contextlib
 import os
 import re
 import stat
-import tempfile
 from collections.abc import Iterator
 from typing import NamedTuple
 
-from nesthv_tools import command_line, elf_images, faults, places, progress, records, whole_files
+from nesthv_tools import command_line, elf_images, endings, faults, places, progress, records, whole_files
 
 LENGTH_OF_STACK = 1 << 20  # bytes of RAM that are free behind what an ELF file has
 FEWEST_BLOCKS = 4
@@ -165,7 +164,7 @@ def opened(path: str, options: argparse.Namespace, is_second: bool = False) -> I
         return
     shown = " ".join([path, *(each for each in given if not each.startswith("--write"))])
     with contextlib.ExitStack() as stack:
-        folder = options.write or stack.enter_context(tempfile.TemporaryDirectory(prefix="nesthv-"))
+        folder = options.write or stack.enter_context(endings.Folder("nesthv-"))
         yield Given(written(files_of(path, options), folder), shown)
 
 

@@ -7,9 +7,9 @@ from typing import NamedTuple
 from nesthv_tools import places, programs, versions
 
 # Each tool that is installed, by its script, and its command.
-TOOLS = ("run", "look", "debug", "batch", "inputs", "saved", "qemu-run")
+TOOLS = ("run", "look", "debug", "profile", "batch", "inputs", "saved", "qemu-run")
 COMMANDS = {name: f"nesthv-{name}" for name in TOOLS}
-PROGRAMS = ("nesthv", "nesthv-gdb")
+PROGRAMS = ("nesthv", "nesthv-gdb", "nesthv-trace")
 DATA = ("csrs.txt", "debug.gdb", "qemu.bin")  # files that tools read, beside their scripts
 LIBRARY = os.path.join("lib", "nesthv", "tools")
 MANIFEST = os.path.join("lib", "nesthv", "FILES")
@@ -62,9 +62,10 @@ def tool_files() -> Iterator[File]:
 def files(program: str) -> Iterator[File]:
     """Each file, where this is the path of the proved program."""
     yield copied(program, os.path.join("bin", "nesthv"))
-    debugger = os.path.join(places.DIST, "nesthv-gdb")
-    if programs.is_program(debugger) and programs.is_of(debugger, places.DIST, "nesthv-gdb"):
-        yield copied(debugger, os.path.join("bin", "nesthv-gdb"))
+    for name in PROGRAMS[1:]:
+        path = os.path.join(places.DIST, name)
+        if programs.is_program(path) and programs.is_of(path, places.DIST, name):
+            yield copied(path, os.path.join("bin", name))
     yield from tool_files()
     line = f"{programs.hash_of(program)}  nesthv\n"
     yield File(os.path.join(LIBRARY, "nesthv.sha256"), line.encode(), 0o644)
@@ -80,6 +81,6 @@ def links() -> Iterator[Link]:
     """Each link."""
     for tool, command in COMMANDS.items():
         yield Link(os.path.join("bin", command), os.path.join("..", LIBRARY, tool))
-    for command in (*COMMANDS.values(), "nesthv-gdb"):
+    for command in (*COMMANDS.values(), *PROGRAMS[1:]):
         yield Link(os.path.join(BASH, command), "nesthv")
         yield Link(os.path.join(FISH, f"{command}.fish"), "nesthv.fish")

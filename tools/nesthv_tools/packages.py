@@ -8,10 +8,9 @@ import os
 import shutil
 import subprocess
 import tarfile
-import tempfile
 from collections.abc import Iterator
 
-from nesthv_tools import command_line, layout, places, programs, streams, versions, whole_files
+from nesthv_tools import command_line, endings, layout, places, programs, streams, versions, whole_files
 
 DOCUMENTS = os.path.join("share", "doc", "nesthv")
 PAGES = ("README.md", "CHANGES.md", "SECURITY.md", "docs/*.md", "docs/*.svg")
@@ -22,7 +21,7 @@ Section: otherosfs
 Priority: optional
 Architecture: amd64
 Depends: libc6 (>= 2.34), python3 (>= 3.11)
-Suggests: gdb-multiarch, gcc-riscv64-linux-gnu, qemu-system-misc | qemu-system-riscv
+Suggests: gdb-multiarch, gcc-riscv64-linux-gnu, qemu-system-misc | qemu-system-riscv, kcachegrind, lcov
 Maintainer: {maintainer}
 Installed-Size: {size}
 Description: deterministic RISC-V simulator for hypervisors, proved
@@ -102,7 +101,7 @@ def debian_package(version: str, files: list[layout.File], links: list[layout.Li
     fields = CONTROL.format(version=version, size=size, maintainer=versions.author())
     control = [layout.File("DEBIAN/control", fields.encode(), 0o644),
                layout.File("DEBIAN/md5sums", sums.encode(), 0o644)]
-    with tempfile.TemporaryDirectory(prefix="nesthv-package-") as folder:
+    with endings.Folder("nesthv-package-") as folder:
         root, made = os.path.join(folder, "root"), os.path.join(folder, "made.deb")
         os.mkdir(root, 0o755)
         os.chmod(root, 0o755)

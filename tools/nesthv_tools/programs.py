@@ -85,6 +85,16 @@ def is_program(path: str) -> bool:
     return os.path.isfile(path) and os.access(path, os.X_OK)
 
 
+def companion(name: str, path: str | None = None) -> str | None:
+    """The path of another program, as nesthv-gdb: the one that is named, else that of where tools/install has
+    put the tools, else that of dist/, else the one that rt has built; or none."""
+    crate = name.replace("-", "_")
+    built = os.path.join(places.TOP, "crates", crate, "out", crate)
+    installed = os.path.join(os.path.dirname(INSTALLED), name)
+    candidates = [path] if path else [installed, os.path.join(places.DIST, name), built]
+    return next((os.path.abspath(each) for each in candidates if is_program(each)), None)
+
+
 def why_not(path: str) -> str:
     """Why the file at this path cannot be a program."""
     if not os.path.exists(path):

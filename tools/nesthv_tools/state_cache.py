@@ -1,10 +1,9 @@
 """A folder of kept states, with a bound on its size."""
 import os
 import shutil
-import tempfile
 from typing import BinaryIO
 
-from nesthv_tools import saves, whole_files
+from nesthv_tools import endings, saves, whole_files
 
 MIB = 1 << 20
 DEFAULT_SIZE = 256 * MIB  # of the disk
@@ -22,7 +21,7 @@ class Cache:
         except OSError:
             self.most = 0
         if not self.most:
-            self.own = tempfile.TemporaryDirectory(prefix="nesthv-look-")
+            self.own = endings.Folder("nesthv-look-")
             self.top, self.most = self.own.name, DEFAULT_SIZE
             os.mkdir(os.path.join(self.top, key))
         self.folder = os.path.join(self.top, key)

@@ -21,7 +21,8 @@ HIDDEN = ("$", ".L")
 
 
 class Elf:
-    """The sections that an ELF file has in memory, and its symbols there."""
+    """The sections that an ELF file has in memory, where in them its instructions are, and its symbols
+    there."""
 
     def __init__(self, data: bytes) -> None:
         if data[:6] != b"\x7fELF\x02\x01":
@@ -29,13 +30,18 @@ class Elf:
         offset, = struct.unpack_from("<Q", data, 40)
         size, count = struct.unpack_from("<2H", data, 58)
         headers = [struct.unpack_from("<2I4Q2I2Q", data, offset + size * index) for index in range(count)]
-        self.sections, named = [], {}
+        self.sections, code, named = [], [], {}
         for index, (_, kind, flags, address, at, length, *_) in enumerate(headers):
             if flags & 2 and kind == 1:
-                self.sections.append((address, data[at:at + length]))
+                part = data[at:at + length]
+                self.sections.append((address, part))
+                code += [(address, address + len(part))] * bool(flags & 4)
                 named[index] = address, length
-        self.symbols = sorted(self.symbols_of(data, headers, named))
+        found = sorted(self.symbols_of(data, headers, named))
+        self.symbols = [each for each in found if not each[1].startswith(HIDDEN)]
         self.places = [place for place, _ in self.symbols]
+        marks = [(place, name.startswith("$x")) for place, name in found if name.startswith(("$x", "$d"))]
+        self.code = sorted(part for start, end in code for part in instructions_in(start, end, marks))
 
     def symbols_of(self, data: bytes, headers: list[tuple[int, ...]],
                    named: dict[int, tuple[int, int]]) -> Iterator[tuple[int, str]]:
@@ -49,7 +55,7 @@ class Elf:
                 end = data.find(b"\0", names + name_at)
                 name = data[names + name_at:end].decode(errors="replace")
                 start, size = named.get(section, (0, 0))
-                if info & 15 < 3 and name and not name.startswith(HIDDEN) and start <= address < start + size:
+                if info & 15 < 3 and name and start <= address < start + size:
                     yield address, name
 
     def word_at(self, address: int) -> int | None:
@@ -67,6 +73,19 @@ class Elf:
             return ""
         place, name = self.symbols[index]
         return name if place == address else f"{name}+{address - place:#x}"
+
+
+def instructions_in(start: int, end: int, marks: list[tuple[int, bool]]) -> Iterator[tuple[int, int]]:
+    """The parts of a section from `start` to `end` that are instructions, by the marks in it: each is a
+    place, and whether instructions begin there, or data."""
+    is_code = True
+    for place, begins_code in marks:
+        if start <= place < end:
+            if is_code and start < place:
+                yield start, place
+            start, is_code = place, begins_code
+    if is_code and start < end:
+        yield start, end
 
 
 def elf_at(path: str) -> Elf | None:
@@ -93,6 +112,14 @@ class Symbols:
 
     def __init__(self, own: Elf | None, others: list[Elf]) -> None:
         self.own, self.others = own, others
+
+    def symbol_at_virtual(self, word: int, virtual: int, is_nested: bool) -> str | None:
+        """The symbol of an instruction by its virtual address, or none where that does not tell it."""
+        if not self.own and not self.others:
+            return ""
+        if is_nested or not self.own or self.own.word_at(virtual) != word:
+            return None
+        return self.own.symbol_at(virtual)
 
     def symbol_of(self, word: int, virtual: int, physical: int, is_nested: bool) -> str:
         """The symbol of an instruction, where an ELF file has the word that RAM has; else nothing."""

@@ -1,7 +1,8 @@
 """The visits of a run to V = 1, and what a hypervisor has changed between two of them for its guest."""
 from collections.abc import Iterator
 
-from nesthv_tools import guest_runs, saves, searches, state_changes
+from nesthv_tools import guest_runs, logged_traps, registers_at, saves, searches, state_changes
+from nesthv_tools.logged_traps import Visit
 
 # What VS and VU see: the mode and pc, integer registers, those of VS, and what the hypervisor sets for them.
 SEEN = ["mode", "pc", *(f"x{number}" for number in range(1, 32)),
@@ -13,19 +14,20 @@ def is_nested(saved: saves.Saved) -> bool:
     return saved.mode() in ("VS", "VU")
 
 
-class Visit:
-    """A part of a run in which V is 1: the step behind which it has become so, and the last step with V = 1,
-    or none where the run ends before."""
-
-    def __init__(self, entry: int, left: int | None) -> None:
-        self.entry, self.left = entry, left
-
-
 def visits_and_traps(runs: guest_runs.Runs, start: int, end: int,
                      tell: searches.Tell) -> Iterator[tuple[Visit | None, int | None]]:
     """The visits to V = 1 that begin behind a step, up to a second one, and the steps behind traps into HS
     with V = 0, in order: each visit with no step, and each step with no visit. Between two traps into HS
     there is at most one visit."""
+    if runs.tracer:
+        yield from logged_traps.visits_and_traps(runs, start, end)
+    else:
+        yield from by_states(runs, start, end, tell)
+
+
+def by_states(runs: guest_runs.Runs, start: int, end: int,
+              tell: searches.Tell) -> Iterator[tuple[Visit | None, int | None]]:
+    """The same, found by states."""
     finder, step = searches.Traps(runs, ("stvec",), tell), start
     while step < end:
         trap = finder.next(step, end)
@@ -43,7 +45,7 @@ def visits_of(runs: guest_runs.Runs, start: int, end: int, tell: searches.Tell) 
     return (visit for visit, _ in visits_and_traps(runs, start, end, tell) if visit)
 
 
-def changes(before: saves.Saved, after: saves.Saved) -> list[state_changes.Change]:
+def changes(before: registers_at.State, after: registers_at.State) -> list[state_changes.Change]:
     """What the guest's guest sees changed from one state to another."""
     return [state_changes.change_of(name, before.numbers[name], after.numbers[name]) for name in SEEN
             if before.numbers[name] != after.numbers[name]]

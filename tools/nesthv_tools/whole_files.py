@@ -1,10 +1,12 @@
 """Files that are written whole or not at all: what was there stays until all is on the disk."""
 import contextlib
+import itertools
 import os
 import stat
-import threading
 from collections.abc import Iterator
 from typing import BinaryIO
+
+NUMBERS = itertools.count()  # of the files that are being written
 
 
 def write(path: str, data: bytes, mode: int | None = None) -> None:
@@ -41,7 +43,7 @@ def is_replaced(target: str) -> bool:
 @contextlib.contextmanager
 def beside(target: str, mode: int | None) -> Iterator[BinaryIO]:
     """A file beside another one, in whose place it is put once it is written."""
-    part = os.path.join(os.path.dirname(target), f".nesthv-{os.getpid()}-{threading.get_ident()}")
+    part = os.path.join(os.path.dirname(target), f".nesthv-{os.getpid()}-{next(NUMBERS)}")
     try:
         with open(part, "xb") as file:
             yield file

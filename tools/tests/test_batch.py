@@ -5,7 +5,7 @@ import signal
 import subprocess
 from xml.etree import ElementTree
 
-from helper import LETTER, LETTER_REPORT, LIMIT, LOOP, TOOLS, ToolTest, take_interrupts
+from helper import LETTER, LETTER_REPORT, LIMIT, LOOP, TOOLS, ToolTest, take_signals
 
 ENDLESS = "format = 1\nquantum = 4294967296\nrounds = 1000\n"
 
@@ -170,7 +170,7 @@ class BatchTest(ToolTest):
         self.configure("kept/b.toml", front=ENDLESS, image='"loop.bin"')
         started = subprocess.Popen([f"{TOOLS}/batch", os.path.join(self.folder, "kept")],
                                    stdout=subprocess.PIPE, stderr=subprocess.PIPE,
-                                   preexec_fn=take_interrupts,
+                                   preexec_fn=take_signals,
                                    env={**os.environ, "NESTHV": f"{TOOLS}/../dist/nesthv"})
         self.assertEqual(started.stdout.readline(), b"PASS a.toml\n")
         started.send_signal(signal.SIGINT)

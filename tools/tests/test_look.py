@@ -10,7 +10,7 @@ from unittest import mock
 from xml.dom import minidom
 
 from saved_files import HGATP, form
-from helper import LETTER, LIMIT, LOOP, PROGRAM, TOOLS, TOP, ToolTest
+from helper import LETTER, LIMIT, LOOP, PROGRAM, TOOLS, TOP, ToolTest, take_signals
 from nesthv_tools import (
     drawing, fences, guest_runs, presentation, registers, saves, searches, state_cache, state_changes, symbols,
     trap_causes, walks)
@@ -562,7 +562,7 @@ class FakeTest(LookTest):
         for number in (signal.SIGTERM, signal.SIGHUP):
             variables = {**os.environ, "NESTHV": slow, "TMPDIR": place, "XDG_CACHE_HOME": self.folder}
             started = subprocess.Popen([f"{TOOLS}/look", "--cache-size", "0", path, "at", "end"], env=variables,
-                                       stdout=subprocess.PIPE, stderr=subprocess.PIPE)
+                                       stdout=subprocess.PIPE, stderr=subprocess.PIPE, preexec_fn=take_signals)
             while not os.path.exists(f"{place}/began"):
                 time.sleep(0.05)
             time.sleep(0.2)
@@ -601,6 +601,43 @@ class FakeTest(LookTest):
         ran = self.look(self.trapping(), "at", "0", NESTHV=old)
         self.check_plain(ran, 2)
         self.check_said(ran, "has no command `save`")
+
+
+class LoggedTest(LookTest):
+    """The tool where nesthv-trace stands beside the program: it says the same."""
+
+    def setUp(self):
+        super().setUp()
+        os.mkdir(os.path.join(self.folder, "bin"))
+        self.tracer = os.path.join(self.folder, "bin", "nesthv-trace")
+        self.program = os.path.join(self.folder, "bin", "nesthv")
+        for path in (self.program, self.tracer):
+            os.symlink(FAKE, path)
+
+    def test_the_same(self):
+        path = self.trapping()
+        self.put("hang.bin", struct.pack("<2I", 0x100002B7, 0x00628023))  # lui t0, 0x10000; sb t1, 0(t0)
+        hanging = self.configure("hang.toml", image='"hang.bin"')
+        for words in ([path, "traps"], [path, "traps", "2", "6"], [path, "traps", "6", "7", "--json"],
+                      [path, "first-trap"], [path, "first-trap", "2"], [path, "last-trap"],
+                      [path, "last-trap", "--step", "6"], [hanging, "traps", "995", "end"], [hanging, "last-trap"],
+                      [path, "entered"]):
+            with self.subTest(words=words):
+                by_log, by_states = self.look(*words), self.look(*words, NESTHV=FAKE)
+                self.check_plain(by_log, by_states.returncode)
+                self.assertEqual(by_log.stdout, by_states.stdout)
+
+    def test_log_that_fails(self):
+        path = self.trapping()
+        for script, said in (("echo nesthv: out of memory >&2; exit 5", "out of memory"),
+                             ("echo trap 6 HS", "line 1 of the log is not one that nesthv-trace writes"),
+                             ("printf 'trap 6'", "the log ends within line 1"), ("kill -9 $$", "was ended by signal 9")):
+            os.remove(self.tracer)
+            self.put("bin/nesthv-trace", f"#!/bin/sh\n{script}\n")
+            os.chmod(self.tracer, 0o755)
+            ran = self.look(path, "traps")
+            self.check_plain(ran, 2)
+            self.check_said(ran, said)
 
 
 class ProgramTest(LookTest):

@@ -9,7 +9,7 @@ import sys
 import threading
 import time
 
-from helper import LETTER, LETTER_REPORT, LIMIT, LOOP, PROGRAM, TOOLS, TOP, ToolTest, take_interrupts
+from helper import LETTER, LETTER_REPORT, LIMIT, LOOP, PROGRAM, TOOLS, TOP, ToolTest, take_signals
 from nesthv_tools import faults, toml11
 
 INLINE = """format = 1
@@ -359,7 +359,7 @@ class StreamTest(ToolTest):
         self.put("a.bin", LOOP)
         path = self.configure(front="format = 1\nquantum = 4294967296\nrounds = 1000\n")
         started = subprocess.Popen([f"{TOOLS}/run", path], stdout=subprocess.PIPE, stderr=subprocess.PIPE,
-                                   preexec_fn=take_interrupts)
+                                   preexec_fn=take_signals)
         started.stderr.readline()  # which program it takes
         time.sleep(0.3)
         started.send_signal(signal.SIGINT)

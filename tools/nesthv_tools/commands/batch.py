@@ -17,7 +17,7 @@ from argparse import Namespace
 from collections.abc import Iterable, Iterator
 
 from nesthv_tools import (
-    command_line, faults, places, programs, reports, streams, terminal, verdicts, whole_files)
+    children, command_line, faults, places, programs, reports, streams, terminal, verdicts, whole_files)
 
 USAGE = "%(prog)s [OPTION]... FOLDER"
 say = streams.say
@@ -50,8 +50,8 @@ class Running:
 
     def run(self, command: list[str], folder: str, seconds: float) -> tuple[bytes, list[str], int | None]:
         """What this command writes, its lines, and its status; no status where it was not ended in time."""
-        process = subprocess.Popen(command, cwd=folder, stdin=subprocess.DEVNULL, stdout=subprocess.PIPE,
-                                   stderr=subprocess.PIPE)
+        process = children.begin(command, cwd=folder, stdin=subprocess.DEVNULL, stdout=subprocess.PIPE,
+                                 stderr=subprocess.PIPE)
         self.started.add(process)
         if self.is_ended:
             process.kill()
@@ -64,6 +64,7 @@ class Running:
             return b"", [], None
         finally:
             self.started.discard(process)
+            children.RUNNING.discard(process)
 
 
 class Batch:

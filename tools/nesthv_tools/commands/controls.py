@@ -14,10 +14,9 @@ import os
 import re
 import shutil
 import subprocess
-import tempfile
 from typing import NamedTuple
 
-from nesthv_tools import command_line, places, streams
+from nesthv_tools import command_line, endings, places, streams
 
 CRATES = os.path.join(places.TOP, "crates")
 KEYS = ("file", "old", "new")
@@ -214,7 +213,7 @@ def tried(names: list[str], jobs: int) -> int:
     if not shutil.which("rt"):
         raise Unusable("rt is not installed")
     status = 0
-    with tempfile.TemporaryDirectory(prefix="controls-") as folder:
+    with endings.Folder("controls-") as folder:
         crates = [Crate(folder, name, jobs) for name in chosen(names)]
         copy_sources(folder)
         for crate in crates:

@@ -1,9 +1,9 @@
-"""Installs the proved program `nesthv`, the debugger `nesthv-gdb` where dist/ has it, and the tools:
-`nesthv-run`, which explains what the program says, `nesthv-look`, which looks at a guest at any step,
-`nesthv-debug`, which starts gdb, `nesthv-batch`, which runs many configurations, `nesthv-inputs`, which makes
-files of inputs, `nesthv-saved`, which shows files of saved guests, and `nesthv-qemu-run`, which runs a guest
-under QEMU; with man pages, and completion for bash, zsh and fish. With --uninstall it removes what it has
-installed.
+"""Installs the proved program `nesthv`, the debugger `nesthv-gdb` and the log `nesthv-trace` where dist/ has
+them, and the tools: `nesthv-run`, which explains what the program says, `nesthv-look`, which looks at a guest
+at any step, `nesthv-debug`, which starts gdb, `nesthv-profile`, which shows a whole run, `nesthv-batch`,
+which runs many configurations, `nesthv-inputs`, which makes files of inputs, `nesthv-saved`, which shows
+files of saved guests, and `nesthv-qemu-run`, which runs a guest under QEMU; with man pages, and completion
+for bash, zsh and fish. With --uninstall it removes what it has installed.
 """
 import contextlib
 import glob

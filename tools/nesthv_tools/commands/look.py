@@ -44,9 +44,9 @@ from collections.abc import Callable, Iterator
 from typing import NamedTuple
 
 from nesthv_tools import (
-    command_line, drawing, faults, fences, guest_runs, image_configurations, presentation, programs,
-    registers, reports, saves, searches, sessions, state_cache, state_changes, streams, trap_causes, visits,
-    walks, whole_files)
+    command_line, drawing, event_logs, faults, fences, guest_runs, image_configurations, logged_traps,
+    presentation, programs, registers, registers_at, reports, saves, searches, sessions, state_cache,
+    state_changes, streams, trap_causes, visits, walks, whole_files)
 from nesthv_tools.presentation import Value
 from nesthv_tools.sessions import Session
 
@@ -261,9 +261,16 @@ def trap_at(session: Session, step: int) -> tuple[saves.Saved, Value | None]:
     return before, state_changes.trap_of(before, after)
 
 
+def finder_of(session: Session) -> searches.Traps | logged_traps.Traps:
+    names = ("stvec", "vstvec")
+    if session.runs.tracer:
+        return logged_traps.Traps(session.runs, names)
+    return searches.Traps(session.runs, names, session.tell)
+
+
 def traps_from(session: Session, start: int, end: int) -> Iterator[int]:
     """The steps of the traps between two steps, each that behind the trap."""
-    finder = searches.Traps(session.runs, ("stvec", "vstvec"), session.tell)
+    finder = finder_of(session)
     found = finder.next(start, end)
     while found:
         yield found.step
@@ -278,10 +285,28 @@ def short_trap(session: Session, step: int) -> tuple[Value, str]:
             "instruction": session.instruction(before), "trap": trap}, line
 
 
+def logged_trap(session: Session, line: event_logs.Line, word: int | None) -> tuple[Value, str] | None:
+    """The same of a trap in the log and the word of its instruction, or none where a state has to tell it."""
+    pc, trap = line.number("pc"), logged_traps.value_of(line)
+    symbol = None if word is None else session.symbols.symbol_at_virtual(word, pc, line.is_nested())
+    if word is None or symbol is None:
+        return None
+    session.disassembler.learn([word])
+    instruction = {"word": word, "symbol": symbol, "text": session.disassembler.text_of(word, pc), "why": ""}
+    shown = presentation.line_of_instruction(pc, instruction)
+    value = {"step": line.step, "mode": line.mode, "pc": pc, "instruction": instruction, "trap": trap}
+    return value, f"{line.step} {line.mode} {shown}  {presentation.line_of_trap(trap)}"
+
+
 def show_traps(session: Session, words: list[str]) -> int:
-    for step in traps_from(session, *span_of(session, words)):
-        value, line = short_trap(session, step)
-        session.print(value, [line])
+    start, end = span_of(session, words)
+    if session.runs.tracer:
+        shown = (logged_trap(session, line, word) or short_trap(session, line.step + 1)
+                 for line, word in logged_traps.with_words(session.runs, start, end))
+    else:
+        shown = (short_trap(session, step) for step in traps_from(session, start, end))
+    for value, text in shown:
+        session.print(value, [text])
     return 0
 
 
@@ -302,7 +327,7 @@ def show_first_trap(session: Session, words: list[str]) -> int:
 
 def show_last_trap(session: Session, words: list[str]) -> int:
     end = session.state(session.options.step).numbers["steps"]
-    finder = searches.Traps(session.runs, ("stvec", "vstvec"), session.tell)
+    finder = finder_of(session)
     step = finder.last(end)
     if step is None:
         session.print({"trap": None}, [f"no trap is found up to step {end}"])
@@ -340,18 +365,20 @@ def whole_trap(session: Session, step: int) -> tuple[Value, list[str]]:
 
 def show_entered(session: Session, words: list[str]) -> int:
     """Shows the entries into V = 1, and what has changed for each guest's guest since it was left."""
-    left: dict[int, tuple[saves.Saved, Value | None]] = {}
-    for visit in visits.visits_of(session.runs, *span_of(session, words), session.tell):
-        after = session.runs.at(visit.entry)
-        key = after.numbers["hgatp"]
-        session.print(*entry_of(session, after, left.get(key)))
-        if visit.left is not None:
-            left[key] = session.runs.at(visit.left), trap_at(session, visit.left + 1)[1]
+    left: dict[int, tuple[registers_at.State, Value | None]] = {}
+    start, end = span_of(session, words)
+    with registers_at.shown(session.runs, start, end) as at:
+        for visit in visits.visits_of(session.runs, start, end, session.tell):
+            after = at(visit.entry)
+            key = after.numbers["hgatp"]
+            session.print(*entry_of(after, left.get(key)))
+            if visit.left is not None:
+                left[key] = at(visit.left), visit.trap or trap_at(session, visit.left + 1)[1]
     return 0
 
 
-def entry_of(session: Session, after: saves.Saved,
-             left: tuple[saves.Saved, Value | None] | None) -> tuple[Value, list[str]]:
+def entry_of(after: registers_at.State,
+             left: tuple[registers_at.State, Value | None] | None) -> tuple[Value, list[str]]:
     """An entry into V = 1, as a value and as lines; `left` is the last state before, and its trap."""
     key = after.numbers["hgatp"]
     value = {"step": after.numbers["steps"], "mode": after.mode(), "pc": after.numbers["pc"], "hgatp": key,

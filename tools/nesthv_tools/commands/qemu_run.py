@@ -12,7 +12,7 @@ import threading
 import time
 from argparse import Namespace
 
-from nesthv_tools import command_line, faults, places, qemu, records, streams, terminal
+from nesthv_tools import children, command_line, faults, places, qemu, records, streams, terminal
 
 Pairs = list[tuple[int, int]]
 
@@ -137,7 +137,7 @@ class Copy(threading.Thread):
 
 def status_of(command: list[str], options: Namespace) -> int | None:
     """QEMU's status, or none where it was not ended in time."""
-    process = subprocess.Popen(command, stdin=subprocess.DEVNULL, stdout=subprocess.PIPE)
+    process = children.begin(command, stdin=subprocess.DEVNULL, stdout=subprocess.PIPE)
     copy = Copy(process, terminal.Output(options.raw))
     copy.start()
     try:

@@ -12,8 +12,8 @@ from argparse import Namespace
 from collections.abc import Iterable
 
 from nesthv_tools import (
-    command_line, faults, image_configurations, images, places, programs, progress, reports, streams,
-    terminal, verdicts, versions)
+    children, command_line, faults, image_configurations, images, places, programs, progress, reports,
+    streams, terminal, verdicts, versions)
 
 Sections = list[reports.Section] | None
 
@@ -173,7 +173,8 @@ def command_for(options: Namespace, path: str, folder: str, names: list[str],
 
 def started(command: list[str], folder: str) -> tuple[bytes, str, int]:
     """What a command writes, and its status, which is 128 and the number of a signal that ended it."""
-    ran = subprocess.run(command, cwd=folder, stdout=subprocess.PIPE, stderr=subprocess.PIPE, close_fds=False)
+    ran = children.complete(command, cwd=folder, stdout=subprocess.PIPE, stderr=subprocess.PIPE,
+                            close_fds=False)
     lines = ran.stderr.decode(errors="replace")
     if lines:
         try:
@@ -217,8 +218,8 @@ def tell_of_silence(path: str, sections: list[reports.Section], document: faults
 def tell_of_difference(options: Namespace, program: programs.Program, place: str, folder: str) -> None:
     """Says in words where a replay differs, by a run whose report is compared here."""
     stored = reports.bytes_of(options.report)
-    ran = subprocess.run([program.path, "run", place], cwd=folder, stdin=subprocess.DEVNULL,
-                         capture_output=True)
+    ran = children.complete([program.path, "run", place], cwd=folder, stdin=subprocess.DEVNULL,
+                            stdout=subprocess.PIPE, stderr=subprocess.PIPE)
     if stored is not None and ran.returncode == 0:
         for words in reports.differences(stored, ran.stdout):
             say(words)
