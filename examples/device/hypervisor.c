@@ -91,7 +91,7 @@ static void handle(void)
     uint64_t cause, page, address;
     __asm__ volatile("csrr %0, scause" : "=r"(cause));
     __asm__ volatile("csrr %0, stval" : "=r"(address));
-    __asm__ volatile("csrr %0, 0x643" : "=r"(page)); /* htval: the guest physical address, shifted right by 2 */
+    __asm__ volatile("csrr %0, htval" : "=r"(page)); /* the guest physical address, shifted right by 2 */
     page = page << 2 & -PAGE;
     if (cause != LOAD_GUEST_PAGE_FAULT && cause != STORE_GUEST_PAGE_FAULT)
         show_trap();
@@ -117,12 +117,12 @@ int main(void)
 #ifdef HANDED
     map(1, DEVICE_PAGE, DEVICE_PAGE, DEVICE_LEAF);
 #endif
-    __asm__ volatile("csrw 0x680, %0" : : "r"(SV39X4 | (uint64_t)root >> 12)); /* hgatp */
+    __asm__ volatile("csrw hgatp, %0" : : "r"(SV39X4 | (uint64_t)root >> 12));
     __asm__ volatile(".insn r 0x73, 0, 0x31, x0, x0, x0" : : : "memory");       /* HFENCE.GVMA */
     guest.registers[0] = GUEST_AT;
     for (;;) {
         __asm__ volatile("csrs sstatus, %0" : : "r"(SPP));
-        __asm__ volatile("csrs 0x600, %0" : : "r"(SPV)); /* hstatus */
+        __asm__ volatile("csrs hstatus, %0" : : "r"(SPV));
         run(&guest);
         if (has_ended())
             return 0;

@@ -61,7 +61,7 @@ static void map_memory(void)
     for (guest_end = GUEST_RAM; has_memory(guest_end); guest_end += BLOCK)
         middle[guest_end >> 21 & 511] = guest_end >> 2 | LEAF;
     root[GUEST_RAM >> 30] = (uint64_t)middle >> 2 | TABLE;
-    WRITE("0x680", SV39X4 | (uint64_t)root >> 12);                        /* hgatp */
+    WRITE("hgatp", SV39X4 | (uint64_t)root >> 12);
     __asm__ volatile(".insn r 0x73, 0, 0x31, x0, x0, x0" : : : "memory"); /* HFENCE.GVMA */
 }
 
@@ -123,7 +123,7 @@ int main(void)
     guest.registers[A0] = 0; /* the hart */
     guest.registers[A1] = guest_end - TREE_BYTES;
     SET("sstatus", SPP);
-    SET("0x600", SPV); /* hstatus: each trap of the guest sets it again */
+    SET("hstatus", SPV); /* each trap of the guest sets it again */
     for (;;) {
         run(&guest);
         handle();
