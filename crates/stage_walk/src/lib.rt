@@ -18,6 +18,6 @@ pub use laws::{
     walks_depend_on_entries_met, walks_end_by_levels, words_read_back, words_say,
 };
 pub use meeting::places_met;
-pub use noting::{NotingFetch, walk_noted};
+pub use noting::Notes;
 pub use permissions::{permits_first, permits_second};
-pub use walking::walk;
+pub use walking::{walk, walk_noted};

@@ -26,7 +26,8 @@ fn below<F: Fetch>(
     ensures next { result ≡ table_below (next_of access (met_in (F.reading fetch.now) shape va level table)) }
     ensures small { IfSome result (λ frame. frame < 2 ^ 44) }
 {
-    match visit(fetch, shape, va, access, level, table) {
+    let place = place_of(shape, level, table, va);
+    match visit(fetch, level, place, access, &mut ()) {
         Visit::Below(frame) => Some(frame),
         Visit::Last(word) => {
             let _end = last_end(shape, level, access, word);

@@ -6,8 +6,8 @@ use Rattle.std.proofs.lemmas.List.{get_or-set_same, get_or-set_other, get_or_def
 use Rattle.std.proofs.lemmas.Nat.Bits.{bit_at-zero}
 use Rattle.arch_defs.specs.Bits.{bit}
 use Rattle.arch_defs.specs.Frames.{Within}
-use Rattle.frame_set.specs.declared.sets.FrameSet.{FrameSet}
-use Rattle.frame_set.specs.Holding.{has_among, has_frame}
+use Rattle.translation_buffer.specs.declared.frame_sets.FrameSet.{FrameSet}
+use Rattle.translation_buffer.specs.Holding.{has_among, has_frame}
 use Rattle.translation_buffer.specs.Places.{Translator}
 use Rattle.translation_buffer.specs.declared.slots.Slot.{Slot}
 use Rattle.translation_buffer.specs.declared.slots.Slots.{Slots}

@@ -12,8 +12,8 @@ use Rattle.arch_defs.specs.declared.roots.SupervisorRoot.TheVariants as root
 use Rattle.arch_defs.specs.declared.walks.Privilege.{Privilege}
 use Rattle.arch_defs.specs.FirstEntries.{is_first_of, known_by, known_under, unnamed_first}
 use Rattle.arch_defs.specs.Frames.{Frames}
-use Rattle.frame_set.specs.declared.sets.FrameSet.{FrameSet}
-use Rattle.frame_set.specs.Holding.{has_among}
+use Rattle.translation_buffer.specs.declared.frame_sets.FrameSet.{FrameSet}
+use Rattle.translation_buffer.specs.Holding.{has_among}
 use Rattle.translation_buffer.specs.declared.contexts.Context.{Context}
 use Rattle.translation_buffer.specs.declared.pages.Page.{Page}
 use Rattle.translation_buffer.specs.declared.slots.Slot.{Slot}

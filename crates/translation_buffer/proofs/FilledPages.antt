@@ -17,8 +17,8 @@ use Rattle.arch_defs.specs.FirstEntries.{dropped_first, first_filled, first_room
 use Rattle.arch_defs.specs.Frames.{Frames}
 use Rattle.arch_defs.specs.Roots.{is_atp}
 use Rattle.arch_defs.proofs.SameRoots.{atp_same, root_same}
-use Rattle.frame_set.specs.declared.sets.FrameSet.{FrameSet}
-use Rattle.frame_set.specs.Holding.{has_among}
+use Rattle.translation_buffer.specs.declared.frame_sets.FrameSet.{FrameSet}
+use Rattle.translation_buffer.specs.Holding.{has_among}
 use Rattle.translation_buffer.specs.declared.contexts.Context.{Context}
 use Rattle.translation_buffer.specs.declared.pages.Page.{Page}
 use Rattle.translation_buffer.specs.declared.slots.Slot.{Slot}

@@ -9,8 +9,8 @@ use Rattle.arch_defs.specs.declared.walks.Privilege.{Privilege}
 use Rattle.arch_defs.specs.Frames.{Frames, Same, Within}
 use Rattle.arch_defs.specs.Translation.{privilege_of}
 use Rattle.arch_defs.proofs.FrameSets.{same_both, same_fewer, same_none}
-use Rattle.frame_set.specs.declared.sets.FrameSet.{FrameSet}
-use Rattle.frame_set.specs.Holding.{has_among, has_frame}
+use Rattle.translation_buffer.specs.declared.frame_sets.FrameSet.{FrameSet}
+use Rattle.translation_buffer.specs.Holding.{has_among, has_frame}
 use Rattle.translation_buffer.specs.declared.buffers.Buffer.{Buffer}
 use Rattle.translation_buffer.specs.declared.contexts.Context.{Context}
 use Rattle.translation_buffer.specs.declared.pages.Page.{Page}

@@ -2,6 +2,7 @@ pub mod DroppedSlots
 pub mod FencedPages
 pub mod FilledPages
 pub mod Hits
+pub mod Holding
 pub mod Homes
 pub mod KeptPages
 pub mod KeptPlaces
@@ -9,6 +10,8 @@ pub mod KeptSlots
 pub mod OnePage
 pub mod PageTags
 pub mod PlacesInside
+pub mod Recent
+pub mod Removing
 pub mod SameContexts
 pub mod SlotKinds
 pub mod Stored

@@ -18,7 +18,7 @@ use Rattle.arch_defs.specs.Translation.{privilege_of}
 use Rattle.arch_defs.specs.Widths.{bytes_in}
 use Rattle.machine_defs.specs.Core.{At, accessed, storing}
 use Rattle.machine_defs.specs.FirstLeaves.{found_for, known_of}
-use Rattle.frame_set.specs.Holding.{has_frame}
+use Rattle.translation_buffer.specs.Holding.{has_frame}
 use Rattle.translation_buffer.specs.declared.buffers.Buffer.{Buffer}
 use Rattle.translation_buffer.specs.Serving.{Serves}
 use Rattle.translation_buffer.specs.Places.{Reads, Translator, context_of, translated_place, translator}

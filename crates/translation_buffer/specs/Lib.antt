@@ -1,3 +1,4 @@
+pub mod Holding
 pub mod Laws
 pub mod Places
 pub mod Serving

@@ -47,7 +47,7 @@ abbrev pub AreLeft : List Slot → List Slot → Type 0
 AreLeft old new = (at : ℕ) (d : Slot)
     → (get_or new at d ≡ get_or old at d) ⊎ ((get_or new at d).tag ≡ 0)
 
--- a slot is of no page, or stands at the low bits of its page's number, among so many
+-- a slot is empty, or stands at the low bits of its page's number
 abbrev pub IsAtHome : ℕ → ℕ → Slot → Type 0
 IsAtHome size at slot = slot.tag ≢ 0 → slot.tag % 2 ^ 52 % size ≡ at
 

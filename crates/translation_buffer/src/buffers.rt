@@ -11,20 +11,20 @@ ghost use Rattle.arch_defs.specs.FirstEntries.{HasGuestFrame, first_filled, is_f
 ghost use Rattle.arch_defs.specs.Frames.{Frames, Within};
 ghost use Rattle.arch_defs.specs.Memory.{machine_memory};
 ghost use Rattle.arch_defs.specs.Translation.{privilege_of};
-ghost use Rattle.frame_set.specs.declared.sets.FrameSet.{FrameSet};
-ghost use Rattle.frame_set.specs.Holding.{has_frame, has_recent};
+ghost use Rattle.translation_buffer.specs.declared.frame_sets.FrameSet.{FrameSet};
+ghost use Rattle.translation_buffer.specs.Holding.{has_frame, has_recent};
 ghost use Rattle.two_stage_walk.specs.Places.{IsPlaceOf};
 ghost use Rattle.translation_buffer.specs.Places.{Reads, Translator, context_of, passed_by, place_on_hart, spares, translated_place, translator};
 ghost use Rattle.translation_buffer.specs.Tags.{AllAtHome, AllUpTo, bit_of, run_bits, who_bits};
 ghost use Rattle.translation_buffer.specs.WalkCounts.{one_more_walk};
 
 use crate::contexts::Context;
+use crate::frame_sets::FrameSet;
 use crate::pages::{Page, delta};
 use crate::slots::{Slot, Slots};
 use arch_defs::{
     Access, Csrs, Fence, FirstBuffer, FirstEntry, HartState, Mode, Privilege, SupervisorRoot, Tag,
 };
-use frame_set::FrameSet;
 use phys_mem::PhysMem;
 use stage_walk::permits_first;
 use two_stage_walk::{leaf_address, privilege_of, second_noted};

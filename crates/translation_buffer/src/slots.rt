@@ -4,7 +4,7 @@ ghost use Rattle.std.specs.Prelude.{◌≡◌, ◌≢◌, ℕ, ◌+◌, ◌%◌,
 ghost use Rattle.std.specs.List.{All};
 ghost use Rattle.arch_defs.specs.declared.modes.Access.{Access};
 ghost use Rattle.arch_defs.specs.Bits.{bit};
-ghost use Rattle.frame_set.specs.declared.sets.FrameSet.{FrameSet};
+ghost use Rattle.translation_buffer.specs.declared.frame_sets.FrameSet.{FrameSet};
 ghost use Rattle.translation_buffer.specs.Places.{Translator};
 ghost use Rattle.translation_buffer.specs.Serving.{AllLackBit, AllLackPage, AllLackPages, AllStand, LacksBit, LacksPage, SlotStands};
 ghost use Rattle.translation_buffer.specs.Tags.{AllAtHome, AllUpTo, AreAtHome, AreLeft, IsUpTo};
@@ -109,7 +109,7 @@ fn drop_each(slots: &mut [Slot], frame: u64)
     }
 }
 
-// Where a page's translation stands among so many: at the low bits of the page's number.
+// Where a page's translation stands among N slots: at the low bits of the page's number.
 #[inline]
 fn home(page: u64, size: usize) -> usize
     requires some { 0 < size }

@@ -22,13 +22,26 @@ use Rattle.two_stage_walk.specs.declared.translating.Place.TheVariants as made
 use Rattle.two_stage_walk.specs.Answers.{placed, placed_if}
 use Rattle.two_stage_walk.specs.SecondAnswers.{answer_at_end, answer_under, place_or_fault, place_in_memory, trap_of}
 
--- the place, the device page and the trap
-pub place_alike : (address : ℕ) (end : SecondWalkEnd) → place_in_memory (answer_at_end address end) ≡ place_under address end
-place_alike address (Leaf leaf) = refl
-place_alike address (Device leaf) = refl
-place_alike address GuestPageFault = refl
-place_alike address AccessFault = refl
+-- the place
+place_by_end : (address : ℕ) (end : SecondWalkEnd) → place_in_memory (answer_at_end address end) ≡ place_under address end
+place_by_end address (Leaf leaf) = refl
+place_by_end address (Device leaf) = refl
+place_by_end address GuestPageFault = refl
+place_by_end address AccessFault = refl
 
+pub place_bare : (address : ℕ) (inside page : Bool)
+    → place_in_memory (if inside then InMemory address else if page then OnDevice else answer.AccessFault) ≡ (if inside then Some address else None)
+place_bare address true page = refl
+place_bare address false true = refl
+place_bare address false false = refl
+
+pub place_alike : (memory : Memory) (mxr : Bool) (table : GuestRoot) (address : ℕ) (kind : Access)
+    → place_in_memory (answer_under memory mxr table address kind) ≡ second_under memory mxr table address kind
+place_alike memory mxr root.Bare address kind =
+    place_bare address (nat_le memory.base address && nat_lt address (memory.base + length memory.bytes)) (is_on_device address)
+place_alike memory mxr (root.Table mode vmid ppn) address kind = place_by_end address (second_walk memory mxr (guest_shape mode) ppn address kind)
+
+-- the trap
 trap_by_end : (missing : MissingPlace) (address : ℕ) (end : SecondWalkEnd) → trap_of missing (answer_at_end address end) ≡ missing_place_by missing end
 trap_by_end missing address (Leaf leaf) = refl
 trap_by_end missing address (Device leaf) = refl

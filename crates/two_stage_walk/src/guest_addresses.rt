@@ -1,20 +1,19 @@
 // The second stage, whose table lies in memory itself.
 
-ghost use Rattle.std.specs.Prelude.{◌≡◌, ◌^◌, ◌%◌, ◌<◌, IfSome};
-ghost use Rattle.arch_defs.specs.SecondStage.{second_end, guest_root_frame, second_root_of, second_walk, has_frame_of, memory_words, second_by_walk};
-ghost use Rattle.arch_defs.specs.Memory.{bare};
+ghost use Rattle.std.specs.Prelude.{◌≡◌, ◌^◌, ◌%◌, ◌<◌};
+ghost use Rattle.arch_defs.specs.Frames.{Frames, Within};
+ghost use Rattle.arch_defs.specs.SecondStage.{second_end, guest_root_frame, second_root_of, second_walk, has_frame_of, memory_words};
 ghost use Rattle.arch_defs.specs.Translation.{unread};
-ghost use Rattle.arch_defs.specs.Walk.{most_levels};
+ghost use Rattle.arch_defs.specs.Walk.{most_levels, path};
 ghost use Rattle.stage_walk.specs.Ends.{EndFits};
-ghost use Rattle.two_stage_walk.specs.Places.{IsPlaceOf, LeafIn};
-ghost use Rattle.two_stage_walk.specs.SecondAnswers.{place_in_memory};
+ghost use Rattle.stage_walk.specs.Reads.{Each, LiesIn};
+ghost use Rattle.two_stage_walk.specs.Places.{LeafIn};
 
 use crate::devices::is_on_device;
-use crate::second_answers::{SecondAnswer, table_answer};
 use crate::virtual_addresses::{leaf_address, unread};
 use arch_defs::{Access, Csrs, GuestRoot, LeafPte, Mode, SecondWalkEnd, Shape, Trap, WalkEnd};
 use phys_mem::Mem;
-use stage_walk::{Fetch, permits_second, walk};
+use stage_walk::{Fetch, Notes, permits_second, walk_noted};
 
 // Memory as what a walk reads its entries from.
 #[derive_where(Clone, Copy)]
@@ -83,9 +82,33 @@ pub fn second_end<M: Mem>(
 }
 
 /// The walk of the second-stage table of a shape at hgatp's PPN, for an access of a kind at a guest physical
-/// address. `mxr` is sstatus.MXR.
+/// address, which notes the frames of the entries that it reads. `mxr` is sstatus.MXR.
 #[inline(always)]
 #[tactic(auto, unfolding(arch_defs::specs::SecondStage::second_walk))]
+pub fn second_walk_noted<M: Mem, N: Notes>(
+    mem: &M,
+    mxr: bool,
+    shape: Shape,
+    ppn: u64,
+    address: u64,
+    kind: Access,
+    notes: &mut N,
+) -> SecondWalkEnd
+    requires backed { M.is_backed mem.now }
+    ensures value { result ≡ second_walk (M.memory mem.now) mxr shape ppn address kind }
+    ensures leaf { LeafIn (M.memory mem.now) address result }
+    ensures more { Within (N.held notes.old) (N.held notes.new) }
+    ensures recent { Within (N.recent notes.old) (N.recent notes.new) }
+    ensures noted { (frames : Frames) → Within (N.recent notes.new) frames → Each (LiesIn frames)
+        (path (memory_words (M.memory mem.now)) (guest_root_frame ppn) shape address kind) }
+{
+    let root = ppn / 4 % 0x400_0000_0000 * 4;
+    let end = walk_noted(&Words { mem }, root, shape, address, kind, notes);
+    second_end(mem, mxr, address, kind, end)
+}
+
+/// The same walk, of which nothing is noted.
+#[inline(always)]
 pub fn second_walk<M: Mem>(
     mem: &M,
     mxr: bool,
@@ -98,22 +121,7 @@ pub fn second_walk<M: Mem>(
     ensures value { result ≡ second_walk (M.memory mem.now) mxr shape ppn address kind }
     ensures leaf { LeafIn (M.memory mem.now) address result }
 {
-    let root = ppn / 4 % 0x400_0000_0000 * 4;
-    let end = walk(&Words { mem }, root, shape, address, kind);
-    second_end(mem, mxr, address, kind, end)
-}
-
-/// Bare passes on each address inside memory.
-pub fn bare<M: Mem>(mem: &M, address: u64, kind: Access) -> Option<u64>
-    requires backed { M.is_backed mem.now }
-    ensures place { result ≡ bare (M.memory mem.now) address kind }
-    ensures inside { IfSome result (λ place. IsPlaceOf (M.memory mem.now) address place) }
-{
-    if mem.get(address, 1).is_some() {
-        Some(address)
-    } else {
-        None
-    }
+    second_walk_noted(mem, mxr, shape, ppn, address, kind, &mut ())
 }
 
 /// The table of a mode's second stage: hgatp's with V = 1, and none with V = 0.
@@ -124,38 +132,5 @@ pub fn second_root_of(csrs: &Csrs, mode: Mode) -> GuestRoot
         csrs.hgatp
     } else {
         GuestRoot::Bare
-    }
-}
-
-// The place in memory, if the access is made there.
-#[inline(always)]
-fn place_of(answer: SecondAnswer) -> Option<u64>
-    ensures { result ≡ place_in_memory answer }
-{
-    match answer {
-        SecondAnswer::InMemory(place) => Some(place),
-        SecondAnswer::OnDevice | SecondAnswer::GuestPageFault | SecondAnswer::AccessFault => None,
-    }
-}
-
-/// The second stage as the registers and memory are: the place that it gives an access of a kind at a guest
-/// physical address as a mode.
-#[tactic(auto, using(crate::proofs::SecondAnswers::place_alike))]
-pub fn second_place<M: Mem>(
-    mem: &M,
-    csrs: &Csrs,
-    mode: Mode,
-    address: u64,
-    kind: Access,
-) -> Option<u64>
-    requires backed { M.is_backed mem.now }
-    ensures place { result ≡ second_by_walk csrs.now mode (M.memory mem.now) address kind }
-    ensures inside { IfSome result (λ place. IsPlaceOf (M.memory mem.now) address place) }
-{
-    match second_root_of(csrs, mode) {
-        GuestRoot::Bare => bare(mem, address, kind),
-        GuestRoot::Table { mode, ppn, .. } => {
-            place_of(table_answer(mem, csrs.hs.status.mxr, mode, ppn, address, kind))
-        }
     }
 }

@@ -3,8 +3,8 @@
 
 mod devices;
 mod guest_addresses;
-mod noting;
 mod second_answers;
+mod second_places;
 mod translating;
 mod traps;
 mod virtual_addresses;
@@ -12,9 +12,9 @@ mod walked_entries;
 
 pub use arch_defs::{Found, MissingPlace, SecondWalkEnd};
 pub use devices::is_on_device;
-pub use guest_addresses::{second_place, second_root_of, second_walk};
-pub use noting::second_noted;
+pub use guest_addresses::{second_root_of, second_walk};
 pub use phys_mem::Mem;
+pub use second_places::{second_noted, second_place};
 pub use translating::{Place, locate, translate, translate_found};
 pub use traps::{guest_page_trap, missing_place_trap};
 pub use virtual_addresses::{

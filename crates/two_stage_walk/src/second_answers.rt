@@ -41,31 +41,10 @@ fn answer_at_end<M: Mem>(mem: &M, address: u64, end: SecondWalkEnd) -> SecondAns
     }
 }
 
-// By the walk of a table of a shape.
-#[inline(always)]
-fn answer_in<M: Mem>(
-    mem: &M,
-    mxr: bool,
-    shape: Shape,
-    ppn: u64,
-    address: u64,
-    kind: Access,
-) -> SecondAnswer
-    requires backed { M.is_backed mem.now }
-    ensures answer { result ≡ answer_at_end address
-        (second_walk (M.memory mem.now) mxr shape ppn address kind) }
-    ensures inside { AnswerIn (M.memory mem.now) address result }
-{
-    answer_at_end(
-        mem,
-        address,
-        second_walk(mem, mxr, shape, ppn, address, kind),
-    )
-}
-
-/// What the table of a mode makes of it. With the shape of the table known the places of its entries are.
+// What the table of a mode makes of it. With the shape of the table known the places of its entries are
+// computed in fewer instructions.
 #[inline(never)]
-pub fn table_answer<M: Mem>(
+fn table_answer<M: Mem>(
     mem: &M,
     mxr: bool,
     mode: GuestMode,
@@ -79,13 +58,19 @@ pub fn table_answer<M: Mem>(
     ensures inside { AnswerIn (M.memory mem.now) address result }
 {
     match mode {
-        GuestMode::Sv39x4 => answer_in(mem, mxr, Shape::Sv39x4, ppn, address, kind),
-        GuestMode::Sv48x4 => answer_in(mem, mxr, Shape::Sv48x4, ppn, address, kind),
+        GuestMode::Sv39x4 => {
+            let end = second_walk(mem, mxr, Shape::Sv39x4, ppn, address, kind);
+            answer_at_end(mem, address, end)
+        }
+        GuestMode::Sv48x4 => {
+            let end = second_walk(mem, mxr, Shape::Sv48x4, ppn, address, kind);
+            answer_at_end(mem, address, end)
+        }
     }
 }
 
-// What Bare makes of it.
-fn bare_answer<M: Mem>(mem: &M, address: u64) -> SecondAnswer
+/// What Bare makes of it.
+pub fn bare_answer<M: Mem>(mem: &M, address: u64) -> SecondAnswer
     requires backed { M.is_backed mem.now }
     ensures answer { result ≡ bare_answer (M.memory mem.now) address }
     ensures inside { AnswerIn (M.memory mem.now) address result }

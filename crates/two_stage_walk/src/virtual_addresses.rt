@@ -9,7 +9,7 @@ ghost use Rattle.machine_defs.specs.FirstLeaves.{leaf_if, leaf_under};
 ghost use Rattle.stage_walk.specs.Ends.{EndFits, LeafFits};
 ghost use Rattle.two_stage_walk.specs.Places.{IsPlaceOf, KeepsOffset};
 
-use crate::guest_addresses::second_place;
+use crate::second_places::second_place;
 use arch_defs::{
     Access, Csrs, Found, LOAD_ACCESS_FAULT, LeafPte, Mode, Privilege, Shape, SupervisorCsrs,
     SupervisorRoot, Trap, WalkEnd,

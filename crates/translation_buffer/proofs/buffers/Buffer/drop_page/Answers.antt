@@ -1,5 +1,5 @@
 use Rattle.arch_defs.specs.Translation.{privilege_of}
-use Rattle.frame_set.specs.Holding.{has_frame}
+use Rattle.translation_buffer.specs.Holding.{has_frame}
 use Rattle.translation_buffer.specs.Places.{translator}
 use Rattle.translation_buffer.proofs.FencedPages.{all_fenced_stand, page_fenced}
 use Rattle.translation_buffer.proofs.buffers.Buffer.drop_page.Goals as goal

@@ -1,6 +1,6 @@
 use Rattle.std.proofs.Common.{refl}
 use Rattle.arch_defs.specs.Translation.{privilege_of}
-use Rattle.frame_set.specs.Holding.{has_frame}
+use Rattle.translation_buffer.specs.Holding.{has_frame}
 use Rattle.translation_buffer.specs.Places.{translator}
 use Rattle.translation_buffer.proofs.DroppedSlots.{all_without}
 use Rattle.translation_buffer.proofs.buffers.Buffer.drop_read.Goals as goal

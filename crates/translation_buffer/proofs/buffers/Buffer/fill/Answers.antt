@@ -1,6 +1,6 @@
 use Rattle.std.proofs.Common.{sym, subst}
 use Rattle.arch_defs.specs.Translation.{privilege_of}
-use Rattle.frame_set.specs.Holding.{has_frame}
+use Rattle.translation_buffer.specs.Holding.{has_frame}
 use Rattle.translation_buffer.specs.Places.{translator}
 use Rattle.translation_buffer.specs.Serving.{AllStand, PageStands}
 use Rattle.translation_buffer.proofs.FilledPages.{all_filled_stand, page_filled}

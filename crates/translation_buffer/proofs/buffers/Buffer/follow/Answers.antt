@@ -1,6 +1,6 @@
 use Rattle.std.proofs.Common.{◌≡◌, ◌∙◌}
 use Rattle.arch_defs.specs.Translation.{privilege_of}
-use Rattle.frame_set.specs.Holding.{has_frame}
+use Rattle.translation_buffer.specs.Holding.{has_frame}
 use Rattle.translation_buffer.specs.Places.{context_of, translator}
 use Rattle.translation_buffer.proofs.buffers.Buffer.follow.Goals as goal
 

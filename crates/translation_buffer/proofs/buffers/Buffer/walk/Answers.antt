@@ -1,7 +1,7 @@
 use Rattle.std.proofs.Common.{rules, ◌≡◌, ◌%◌, ◌^◌, ◌<◌, Some, length, ◌∙◌}
 use Rattle.arch_defs.specs.declared.walks.Privilege.{Privilege}
 use Rattle.arch_defs.specs.Translation.{privilege_of}
-use Rattle.frame_set.specs.Holding.{has_among, has_frame}
+use Rattle.translation_buffer.specs.Holding.{has_among, has_frame}
 use Rattle.translation_buffer.specs.Places.{Translator, translated_place, translator}
 use Rattle.translation_buffer.proofs.KeptPages.{page_more}
 use Rattle.translation_buffer.proofs.KeptSlots.{all_more, kept_page, kept_tag, kept_up_to, recent_among, walk_stands}

@@ -1,9 +1,9 @@
 -- What a set holds after the frames of a mark were taken out.
 use Rattle.std.proofs.Common.{◌≡◌, ℕ, ◌%◌, false, length, set, slice_index, ap, ◌∙◌, arith}
 use Rattle.std.proofs.lemmas.List.{get_or-set_same}
-use Rattle.frame_set.specs.declared.sets.FrameSet.{FrameSet}
-use Rattle.frame_set.specs.Holding.{has_frame, is_key}
-use Rattle.frame_set.proofs.Holding.{apart_kept, is_none}
+use Rattle.translation_buffer.specs.declared.frame_sets.FrameSet.{FrameSet}
+use Rattle.translation_buffer.specs.Holding.{has_frame, is_key}
+use Rattle.translation_buffer.proofs.Holding.{apart_kept, is_none}
 
 pub taken_out : (frames : FrameSet) (frame other : ℕ) → length frames.held ≡ 4096 → other % 4096 ≡ frame % 4096
     → has_frame (record frames { held = set frames.held (frame % 4096) 0 }) other ≡ false

@@ -5,8 +5,8 @@ use Rattle.std.proofs.lemmas.Bool.{and_from, and_parts, eq-eqb, eqb-true}
 use Rattle.std.proofs.lemmas.Nat.Bits.{bit_at-lt, bit_at-zero, bit_at_or, bit_at-pow_same}
 use Rattle.arch_defs.specs.Bits.{bit}
 use Rattle.arch_defs.specs.Frames.{Within}
-use Rattle.frame_set.specs.declared.sets.FrameSet.{FrameSet}
-use Rattle.frame_set.specs.Holding.{has_among, has_frame, has_recent}
+use Rattle.translation_buffer.specs.declared.frame_sets.FrameSet.{FrameSet}
+use Rattle.translation_buffer.specs.Holding.{has_among, has_frame, has_recent}
 
 -- bits
 most : (n : ℕ) → n < 2 → (max 1 n ≡ 1) × (max n 1 ≡ 1)

@@ -2,7 +2,7 @@
 use Rattle.std.specs.Prelude.{ℕ, ◌+◌, ◌-◌, ◌%◌, ◌^◌, Bool, ◌&&◌, ◌||◌, ◌==◌, nat_lt, slice_index, if◌then◌else◌}
 use Rattle.arch_defs.specs.Frames.{Frames}
 use Rattle.arch_defs.specs.Bits.{bit}
-use Rattle.frame_set.specs.declared.sets.FrameSet.{FrameSet}
+use Rattle.translation_buffer.specs.declared.frame_sets.FrameSet.{FrameSet}
 
 -- the key of a frame: its number and one, and never more than the last number of 64 bits
 abbrev pub key_of : ℕ → ℕ

@@ -2,7 +2,9 @@
 
 ghost use Rattle.std.specs.Prelude.{◌≡◌, ◌≢◌, ℕ, ◌%◌, ◌^◌, true, false, replicate};
 ghost use Rattle.arch_defs.specs.Frames.{Within};
-ghost use Rattle.frame_set.specs.Holding.{has_frame, has_recent, is_key, key_of};
+ghost use Rattle.translation_buffer.specs.Holding.{has_frame, has_recent, is_key, key_of};
+
+use stage_walk::Notes;
 
 // How many marks there are: a frame's mark is its number modulo this.
 const MARKS: u64 = 4096;
@@ -142,5 +144,16 @@ impl FrameSet {
             → has_frame self.new other ≡ has_frame self.old other }
     {
         self.held[(frame % MARKS) as usize] = 0;
+    }
+}
+
+impl Notes for FrameSet {
+    ghost held = { λ set. has_frame set };
+
+    ghost recent = { λ set. has_recent set };
+
+    #[inline(always)]
+    fn note(&mut self, frame: u64) {
+        self.add(frame);
     }
 }
