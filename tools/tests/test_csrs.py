@@ -7,25 +7,14 @@ import unittest
 from helper import TOP
 from nesthv_tools import csrs, registers, saves
 
-FIRST = 65  # gdb's number of the register 0
-
 
 class CsrTest(unittest.TestCase):
     def test_names_of_the_program(self):
-        """The list has the numbers that the program's tests have."""
-        pairs = re.findall(r'\("(\w+)", 0x([0-9A-Fa-f]{3})\)', self.source("test_programs", "names"))
-        self.assertGreater(len(pairs), 25)
-        for name, number in pairs:
-            if name in csrs.NUMBERS:
-                self.assertEqual(csrs.NUMBERS[name], int(number, 16), name)
-
-    def test_description_for_gdb(self):
-        """gdb is told each register of the list that HS has, by its number, and no other one."""
-        found = re.findall(r'name=\\"(\w+)\\" bitsize=\\"64\\" type=\\"int\\" regnum=\\"(\d+)',
-                           self.source("nesthv_gdb", "descriptions"))
-        told = {name: int(number) - FIRST for name, number in found if FIRST <= int(number) < FIRST + 4096}
-        self.assertEqual(told, {name: csrs.NUMBERS[name] for name in told})
-        self.assertEqual(set(told.values()), self.numbers_of_the_program())
+        """The program's names are those of the list, and each number that it knows has a name."""
+        pairs = re.findall(r'\("(\w+)", 0x([0-9A-F]{3})\)', self.source("csr_file", "names"))
+        named = {name: int(number, 16) for name, number in pairs}
+        self.assertEqual(named, {name: csrs.NUMBERS.get(name) for name in named})
+        self.assertEqual(set(named.values()), self.numbers_of_the_program())
 
     def numbers_of_the_program(self):
         """The numbers that name a register in HS."""

@@ -1,4 +1,4 @@
-// What the numbers name in HS.
+// What the numbers name in HS, and the names of the registers.
 
 ghost use Rattle.std.specs.Prelude.{◌≡◌};
 ghost use Rattle.arch_defs.specs.CsrNames.{supervisor_register, virtual_supervisor_register, hypervisor_register, read_only_register, register_of};
@@ -88,3 +88,43 @@ pub fn register_of(number: u16) -> Option<Register>
         _ => read_only_register(number),
     }
 }
+
+/// The control and status registers of HS: the name, as assembly has it, and the number (Privileged
+/// Architecture 20211203, tables 2.2 to 2.4).
+pub static CSR_NAMES: [(&'static str, u16); 35] = [
+    ("sstatus", 0x100),
+    ("sie", 0x104),
+    ("stvec", 0x105),
+    ("scounteren", 0x106),
+    ("senvcfg", 0x10A),
+    ("sscratch", 0x140),
+    ("sepc", 0x141),
+    ("scause", 0x142),
+    ("stval", 0x143),
+    ("sip", 0x144),
+    ("satp", 0x180),
+    ("vsstatus", 0x200),
+    ("vsie", 0x204),
+    ("vstvec", 0x205),
+    ("vsscratch", 0x240),
+    ("vsepc", 0x241),
+    ("vscause", 0x242),
+    ("vstval", 0x243),
+    ("vsip", 0x244),
+    ("vsatp", 0x280),
+    ("hstatus", 0x600),
+    ("hedeleg", 0x602),
+    ("hideleg", 0x603),
+    ("hie", 0x604),
+    ("htimedelta", 0x605),
+    ("hcounteren", 0x606),
+    ("hgeie", 0x607),
+    ("henvcfg", 0x60A),
+    ("htval", 0x643),
+    ("hip", 0x644),
+    ("hvip", 0x645),
+    ("htinst", 0x64A),
+    ("hgatp", 0x680),
+    ("time", 0xC01),
+    ("hgeip", 0xE12),
+];

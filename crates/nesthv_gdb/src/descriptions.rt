@@ -1,8 +1,16 @@
 // The registers as gdb is told of them: x0 to x31 and pc, the control and status registers of HS, VS and the
 // hypervisor by 65 and their numbers, and the mode.
 
-/// The target description (manual of gdb, "Target Descriptions").
-pub const DESCRIPTION: &[u8] = b"\
+use csr_file::CSR_NAMES;
+use itoa::Buffer;
+use no_memory::NoMemory;
+use std::alloc::Global;
+
+// gdb's number of the control and status register 0.
+const FIRST_CSR: u32 = 65;
+
+// What stands before the control and status registers.
+const HEAD: &[u8] = b"\
     <?xml version=\"1.0\"?>\n\
     <!DOCTYPE target SYSTEM \"gdb-target.dtd\">\n\
     <target version=\"1.0\">\n\
@@ -43,44 +51,31 @@ pub const DESCRIPTION: &[u8] = b"\
     <reg name=\"t6\" bitsize=\"64\" type=\"int\" regnum=\"31\"/>\n\
     <reg name=\"pc\" bitsize=\"64\" type=\"code_ptr\" regnum=\"32\"/>\n\
     </feature>\n\
-    <feature name=\"org.gnu.gdb.riscv.csr\">\n\
-    <reg name=\"sstatus\" bitsize=\"64\" type=\"int\" regnum=\"321\"/>\n\
-    <reg name=\"sie\" bitsize=\"64\" type=\"int\" regnum=\"325\"/>\n\
-    <reg name=\"stvec\" bitsize=\"64\" type=\"int\" regnum=\"326\"/>\n\
-    <reg name=\"scounteren\" bitsize=\"64\" type=\"int\" regnum=\"327\"/>\n\
-    <reg name=\"senvcfg\" bitsize=\"64\" type=\"int\" regnum=\"331\"/>\n\
-    <reg name=\"sscratch\" bitsize=\"64\" type=\"int\" regnum=\"385\"/>\n\
-    <reg name=\"sepc\" bitsize=\"64\" type=\"int\" regnum=\"386\"/>\n\
-    <reg name=\"scause\" bitsize=\"64\" type=\"int\" regnum=\"387\"/>\n\
-    <reg name=\"stval\" bitsize=\"64\" type=\"int\" regnum=\"388\"/>\n\
-    <reg name=\"sip\" bitsize=\"64\" type=\"int\" regnum=\"389\"/>\n\
-    <reg name=\"satp\" bitsize=\"64\" type=\"int\" regnum=\"449\"/>\n\
-    <reg name=\"vsstatus\" bitsize=\"64\" type=\"int\" regnum=\"577\"/>\n\
-    <reg name=\"vsie\" bitsize=\"64\" type=\"int\" regnum=\"581\"/>\n\
-    <reg name=\"vstvec\" bitsize=\"64\" type=\"int\" regnum=\"582\"/>\n\
-    <reg name=\"vsscratch\" bitsize=\"64\" type=\"int\" regnum=\"641\"/>\n\
-    <reg name=\"vsepc\" bitsize=\"64\" type=\"int\" regnum=\"642\"/>\n\
-    <reg name=\"vscause\" bitsize=\"64\" type=\"int\" regnum=\"643\"/>\n\
-    <reg name=\"vstval\" bitsize=\"64\" type=\"int\" regnum=\"644\"/>\n\
-    <reg name=\"vsip\" bitsize=\"64\" type=\"int\" regnum=\"645\"/>\n\
-    <reg name=\"vsatp\" bitsize=\"64\" type=\"int\" regnum=\"705\"/>\n\
-    <reg name=\"hstatus\" bitsize=\"64\" type=\"int\" regnum=\"1601\"/>\n\
-    <reg name=\"hedeleg\" bitsize=\"64\" type=\"int\" regnum=\"1603\"/>\n\
-    <reg name=\"hideleg\" bitsize=\"64\" type=\"int\" regnum=\"1604\"/>\n\
-    <reg name=\"hie\" bitsize=\"64\" type=\"int\" regnum=\"1605\"/>\n\
-    <reg name=\"htimedelta\" bitsize=\"64\" type=\"int\" regnum=\"1606\"/>\n\
-    <reg name=\"hcounteren\" bitsize=\"64\" type=\"int\" regnum=\"1607\"/>\n\
-    <reg name=\"hgeie\" bitsize=\"64\" type=\"int\" regnum=\"1608\"/>\n\
-    <reg name=\"henvcfg\" bitsize=\"64\" type=\"int\" regnum=\"1611\"/>\n\
-    <reg name=\"htval\" bitsize=\"64\" type=\"int\" regnum=\"1668\"/>\n\
-    <reg name=\"hip\" bitsize=\"64\" type=\"int\" regnum=\"1669\"/>\n\
-    <reg name=\"hvip\" bitsize=\"64\" type=\"int\" regnum=\"1670\"/>\n\
-    <reg name=\"htinst\" bitsize=\"64\" type=\"int\" regnum=\"1675\"/>\n\
-    <reg name=\"hgatp\" bitsize=\"64\" type=\"int\" regnum=\"1729\"/>\n\
-    <reg name=\"time\" bitsize=\"64\" type=\"int\" regnum=\"3138\"/>\n\
-    <reg name=\"hgeip\" bitsize=\"64\" type=\"int\" regnum=\"3667\"/>\n\
+    <feature name=\"org.gnu.gdb.riscv.csr\">\n";
+
+// What stands behind them.
+const TAIL: &[u8] = b"\
     </feature>\n\
     <feature name=\"org.gnu.gdb.riscv.virtual\">\n\
     <reg name=\"priv\" bitsize=\"64\" type=\"int\" regnum=\"4161\"/>\n\
     </feature>\n\
     </target>\n";
+
+/// The target description (manual of gdb, "Target Descriptions").
+///
+/// # Errors
+///
+/// Out of memory.
+pub fn target_description(alloc: Global) -> Result<Vec<u8>, NoMemory> {
+    let mut text = Vec::from_slice(alloc, HEAD)?;
+    for (name, number) in &CSR_NAMES {
+        let mut digits = Buffer::new();
+        text.extend_from_slice(b"<reg name=\"")?;
+        text.extend_from_slice(name.as_bytes())?;
+        text.extend_from_slice(b"\" bitsize=\"64\" type=\"int\" regnum=\"")?;
+        text.extend_from_slice(digits.format(*number as u32 + FIRST_CSR).as_bytes())?;
+        text.extend_from_slice(b"\"/>\n")?;
+    }
+    text.extend_from_slice(TAIL)?;
+    Ok(text)
+}

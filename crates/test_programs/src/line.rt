@@ -3,7 +3,7 @@
 ghost use Rattle.std.specs.Prelude.{◌≡◌, ◌-◌, ◌%◌, ◌^◌, ◌<◌};
 ghost use Rattle.rv64_asm.specs.Plans.{distance};
 
-use crate::names::{CSRS, REGISTERS, find};
+use crate::names::{REGISTERS, csr_number, find};
 use arch_defs::Reg;
 use op_defs::CsrSource;
 
@@ -51,7 +51,7 @@ impl<'a> Line<'a> {
     pub fn csr(&self, operand: usize) -> Option<u16>
         requires { operand < 3 }
     {
-        find(&CSRS, self.operands[operand])
+        csr_number(self.operands[operand])
     }
 
     /// The offset and the register of a place, as `8(t0)` or `(t0)`.

@@ -1,6 +1,7 @@
 // Names of instructions, of registers, and of control and status registers.
 
 use arch_defs::Width;
+use csr_file::CSR_NAMES;
 use op_defs::{AluOp, AmoOp, CsrOp, Test, WordOp};
 
 /// What a name stands for, in a table of names.
@@ -235,40 +236,10 @@ pub static REGISTERS: [(&'static str, u8); 32] = [
     ("t6", 31),
 ];
 
-/// Control and status registers (Privileged Architecture 20211203, 2.2).
-pub static CSRS: [(&'static str, u16); 34] = [
-    ("sstatus", 0x100),
-    ("sie", 0x104),
-    ("stvec", 0x105),
-    ("scounteren", 0x106),
-    ("sscratch", 0x140),
-    ("sepc", 0x141),
-    ("scause", 0x142),
-    ("stval", 0x143),
-    ("sip", 0x144),
-    ("satp", 0x180),
-    ("vsstatus", 0x200),
-    ("vsie", 0x204),
-    ("vstvec", 0x205),
-    ("vsscratch", 0x240),
-    ("vsepc", 0x241),
-    ("vscause", 0x242),
-    ("vstval", 0x243),
-    ("vsip", 0x244),
-    ("vsatp", 0x280),
-    ("hstatus", 0x600),
-    ("hedeleg", 0x602),
-    ("hideleg", 0x603),
-    ("hie", 0x604),
-    ("htimedelta", 0x605),
-    ("hcounteren", 0x606),
-    ("hgeie", 0x607),
-    ("htval", 0x643),
-    ("hip", 0x644),
-    ("hvip", 0x645),
-    ("htinst", 0x64A),
-    ("hgatp", 0x680),
-    ("cycle", 0xC00),
-    ("time", 0xC01),
-    ("hgeip", 0xE12),
-];
+/// The number of a control and status register. cycle has a number, and HS has no register of it.
+pub fn csr_number(name: &str) -> Option<u16> {
+    match name {
+        "cycle" => Some(0xC00),
+        _ => find(&CSR_NAMES, name),
+    }
+}

@@ -2,7 +2,7 @@
 // 20211203, 2.2, 4.1 and 8.2).
 
 use crate::line::register;
-use crate::names::{CSRS, find};
+use crate::names::csr_number;
 use arch_defs::{Csrs, Interrupts, Mode, Reg, Regs, Virtual};
 
 /// Where a value of a state stands.
@@ -30,7 +30,7 @@ pub fn place_of(name: &str) -> Option<At> {
         "time" => Some(At::Time),
         _ => match register(name) {
             Some(register) => Some(At::X(register.number() as u8)),
-            None => Some(At::Csr(find(&CSRS, name)?)),
+            None => Some(At::Csr(csr_number(name)?)),
         },
     }
 }
