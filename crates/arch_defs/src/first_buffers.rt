@@ -193,6 +193,19 @@ impl FirstBuffer {
         self.count = kept;
     }
 
+    // Drops the one of the page of another, for the same accesses. A page is mostly filled where it was not
+    // found, so there is none: a look moves nothing.
+    #[tactic(auto, using(crate::proofs::FirstFills::none_named))]
+    fn drop_same(&mut self, entry: &FirstEntry)
+        ensures { self.new ≡ unnamed_first
+            (is_first_of entry.now.tag entry.now.atp entry.now.page) self.old }
+    {
+        let cached = self.entry_of(&entry.tag, &entry.atp, entry.page).is_some();
+        if cached {
+            self.drop_each(&Naming::Page(*entry));
+        }
+    }
+
     // Puts one in behind the others.
     fn push(&mut self, entry: FirstEntry)
         requires fits { HasGuestFrame entry }
@@ -225,7 +238,7 @@ impl FirstBuffer {
         ensures dropped { All (λ e. result ≡ Some e.page) (dropped_first self.old entry) }
         ensures kept { dropped_first self.old entry ≡ [] → result ≡ None }
     {
-        self.drop_each(&Naming::Page(entry));
+        self.drop_same(&entry);
         if self.count < FIRST_ROOM {
             self.push(entry);
             return None;
