@@ -18,7 +18,7 @@ use Rattle.machine_defs.specs.declared.events.Event.{Event}
 use Rattle.machine_defs.specs.Core.{At, Completion, accessed_data, completed, is_reserved, kind_of, stored_if}
 use Rattle.instruction_laws.proofs.Completions.{completed_same}
 use Rattle.data_access.specs.Places.{IsPlaceFor}
-use Rattle.frame_set.specs.Holding.{has_frame}
+use Rattle.translation_buffer.specs.Holding.{has_frame}
 use Rattle.translation_buffer.specs.declared.buffers.Buffer.{Buffer}
 use Rattle.translation_buffer.specs.Places.{translator}
 use Rattle.translation_buffer.specs.Serving.{PageStands, Serves, ServesHart}

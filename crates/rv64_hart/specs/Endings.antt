@@ -63,7 +63,7 @@ abbrev pub IsNext : ℕ → HartState → List ℕ → Type 0
 IsNext word s memory = attempt_of (with_found_on s memory) memory (core (mmu_on s memory) s.virt)
     ≡ attempt_of_word s memory word
 
--- so many steps lead from a state, memory and trace to others, and none of them is a trap
+-- n steps lead from a state, memory and trace to others, and none of them is a trap
 abbrev pub RunsOn : ℕ → HartState → List ℕ → ℕ → HartState → List ℕ → ℕ → Type 0
 RunsOn n s memory trace after changed raised = (watch : Bool)
     → hart_steps watch n (progress s memory trace false) ≡ Some (progress after changed raised false)

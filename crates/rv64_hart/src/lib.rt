@@ -3,6 +3,7 @@
 #![tactic(auto)]
 
 mod accesses;
+mod common_instructions;
 mod endings;
 mod harts;
 mod laws;
@@ -20,4 +21,4 @@ pub use leaves::{Leaves, found_at_exit, next_at_exit};
 pub use next_accesses::{access_at_pc, word_at_pc};
 pub use phys_mem::PhysMem;
 pub use tallies::Tally;
-pub use wanted_accesses::wanted_at;
+pub use wanted_accesses::{wanted_at, wanted_of};

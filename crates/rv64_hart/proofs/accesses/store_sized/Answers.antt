@@ -1,6 +1,6 @@
 use Rattle.std.proofs.Common.{rules, ◌≡◌, ◌/◌, false}
 use Rattle.op_defs.specs.declared.ops.Purpose.TheVariants.{Store}
-use Rattle.frame_set.specs.Holding.{has_frame}
+use Rattle.translation_buffer.specs.Holding.{has_frame}
 use Rattle.rv64_hart.proofs.Kept.{kept_ends, serves_after}
 use Rattle.rv64_hart.proofs.accesses.store_sized.Goals as goal
 

@@ -7,7 +7,7 @@ use Rattle.arch_defs.specs.Registers.{next}
 use Rattle.op_defs.specs.Meaning.{branch, jump, meaning}
 use Rattle.machine_defs.specs.Core.{event_of}
 use Rattle.rv64_hart.proofs.FirstFound.{data_made, effect_made}
-use Rattle.rv64_hart.proofs.steps.made.Goals as goal
+use Rattle.rv64_hart.proofs.common_instructions.made.Goals as goal
 
 pub returns-in-Jal-clause-serves : goal.returns-in-Jal-clause-serves
 returns-in-Jal-clause-serves c = let (csrs, mode) = c.jump.ensures.keeps in rw (c.jump.ensures.first, c.jump.ensures.tag, csrs, mode) c.requires.serves

@@ -1,5 +1,5 @@
 use Rattle.rv64_hart.proofs.FirstFound.{word_made}
-use Rattle.rv64_hart.proofs.steps.common.Goals as goal
+use Rattle.rv64_hart.proofs.common_instructions.common.Goals as goal
 
 pub returns-in-Some-clause-made : goal.returns-in-Some-clause-made
 returns-in-Some-clause-made c =
