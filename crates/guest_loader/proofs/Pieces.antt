@@ -4,7 +4,7 @@ use Rattle.std.proofs.lemmas.Bool.{cases_lt}
 use Rattle.std.proofs.lemmas.Grind.{same_number_lists}
 use Rattle.std.proofs.lemmas.List.{length-take, length-take-le, length-replicate, get_or-take, get_or-drop, get_or-replicate, get_or_past, get_or_append_left, get_or-append_right, take_min, drop_min}
 use Rattle.arch_defs.specs.Memory.{pasted, zeros, loaded}
-use Rattle.arch_defs.proofs.Images.{length_loaded, length_zeros}
+use Rattle.arch_defs.proofs.Images.{length_loaded}
 use Rattle.arch_defs.proofs.Pastes.{length_pasted, pasted_before, pasted_inside, pasted_after}
 
 zero_at : (n i : ℕ) → ◌≡◌ {A = ℕ} (get_or (zeros n) i 0) 0
@@ -14,49 +14,6 @@ zero_at n i = by (cases_lt i n)
     by : (i < n) ⊎ (n ≤ i) → ◌≡◌ {A = ℕ} (get_or (replicate n 0) i 0) 0
     by (inl inside) = get_or-replicate n i 0 0 inside
     by (inr past) = get_or_past (replicate n 0) i 0 (omega (arith, length-replicate {A = ℕ} n 0, past))
-
--- a piece laid over zeros
-pub pasted_over : (bytes : List ℕ) (at n : ℕ) (p : List ℕ) → at + n ≤ length bytes → length p ≤ n
-    → pasted (pasted bytes at (zeros n)) at p ≡ pasted bytes at (p ++ zeros (n - length p))
-pasted_over bytes at n p room short =
-    same_number_lists (pasted (pasted bytes at (zeros n)) at p) (pasted bytes at (p ++ zeros (n - length p))) (left_size ∙ sym right_size)
-    (λ i h. by i (cases_lt i at) (cases_lt i (at + length p)) (cases_lt i (at + n)))
-  where
-    size : length (zeros n) ≡ n
-    size = length_zeros n
-
-    both : length (p ++ zeros (n - length p)) ≡ n
-    both = omega (arith, length-append p (zeros (n - length p)), length_zeros (n - length p), short)
-
-    first_size : length (pasted bytes at (zeros n)) ≡ length bytes
-    first_size = length_pasted bytes at (zeros n) (omega (arith, room, size))
-
-    left_size : length (pasted (pasted bytes at (zeros n)) at p) ≡ length bytes
-    left_size = length_pasted (pasted bytes at (zeros n)) at p (omega (arith, room, short, first_size)) ∙ first_size
-
-    right_size : length (pasted bytes at (p ++ zeros (n - length p))) ≡ length bytes
-    right_size = length_pasted bytes at (p ++ zeros (n - length p)) (omega (arith, room, both))
-
-    by : (i : ℕ) → (i < at) ⊎ (at ≤ i) → (i < at + length p) ⊎ (at + length p ≤ i) → (i < at + n) ⊎ (at + n ≤ i)
-        → get_or (pasted (pasted bytes at (zeros n)) at p) i 0 ≡ get_or (pasted bytes at (p ++ zeros (n - length p))) i 0
-    by i (inl before) y z =
-        pasted_before (pasted bytes at (zeros n)) at p i (omega (arith, room, first_size)) before
-        ∙ (pasted_before bytes at (zeros n) i (omega (arith, room)) before ∙ sym (pasted_before bytes at (p ++ zeros (n - length p)) i (omega (arith, room)) before))
-    by i (inr after) (inl in_p) z =
-        pasted_inside (pasted bytes at (zeros n)) at p i (omega (arith, room, first_size)) after in_p
-        ∙ (sym (get_or_append_left p (zeros (n - length p)) 0 (i - at) (omega (arith, after, in_p)))
-        ∙ sym (pasted_inside bytes at (p ++ zeros (n - length p)) i (omega (arith, room)) after (omega (arith, in_p, both, short))))
-    by i (inr after) (inr past_p) (inl in_q) =
-        pasted_after (pasted bytes at (zeros n)) at p i (omega (arith, room, first_size)) past_p
-        ∙ (pasted_inside bytes at (zeros n) i (omega (arith, room)) after (omega (arith, in_q, size))
-        ∙ (zero_at n (i - at)
-        ∙ (sym (zero_at (n - length p) (i - at - length p))
-        ∙ (sym (get_or-append_right p (zeros (n - length p)) (length p) (i - at) 0 refl (omega (arith, past_p)))
-        ∙ sym (pasted_inside bytes at (p ++ zeros (n - length p)) i (omega (arith, room)) after (omega (arith, in_q, both)))))))
-    by i (inr after) (inr past_p) (inr past_q) =
-        pasted_after (pasted bytes at (zeros n)) at p i (omega (arith, room, first_size)) past_p
-        ∙ (pasted_after bytes at (zeros n) i (omega (arith, room)) (omega (arith, past_q, size))
-        ∙ sym (pasted_after bytes at (p ++ zeros (n - length p)) i (omega (arith, room)) (omega (arith, past_q, both))))
 
 -- the bytes of memory with an image in it
 pub image_byte : (size : ℕ) (image : List ℕ) (i : ℕ) → get_or (loaded size image) i 0 ≡ get_or image i 0
@@ -69,37 +26,47 @@ image_byte size image i = by (cases_lt i (length image))
         get_or-append_right image (zeros (size - length image)) (length image) i 0 refl past
         ∙ (zero_at (size - length image) (i - length image) ∙ sym (get_or_past image i 0 past))
 
--- so a piece of the image with zeros behind it is that piece of memory
-pub filled_piece : (size : ℕ) (image : List ℕ) (from n : ℕ) → length image ≤ size → from + n ≤ size
-    → take n (drop from image) ++ zeros (n - length (take n (drop from image))) ≡ take n (drop from (loaded size image))
-filled_piece size image from n fits room =
-    same_number_lists (piece ++ zeros (n - length piece)) (take n (drop from (loaded size image))) (left_size ∙ sym right_size)
-    (λ i h. by i (omega (arith, h, left_size)) (cases_lt i (length piece)))
+-- memory with the front of an image in it, and the next piece of the image laid behind that
+pub next_piece : (size : ℕ) (image : List ℕ) (a n : ℕ) → length image ≤ size → a + n ≤ size
+    → pasted (loaded size (take a image)) a (take n (drop a image)) ≡ loaded size (take (a + n) image)
+next_piece size image a n fits room =
+    same_number_lists (pasted (loaded size (take a image)) a piece) (loaded size (take (a + n) image))
+    (left_size ∙ (before_size ∙ sym (length_loaded size (take (a + n) image) (front_fits (a + n)))))
+    (λ i h. by i (cases_lt i a) (cases_lt i (a + length piece)) ∙ sym (image_byte size (take (a + n) image) i))
   where
     piece : List ℕ
-    piece = take n (drop from image)
+    piece = take n (drop a image)
 
-    short : length piece ≤ n
-    short = omega (arith, length-take n (drop from image))
+    piece_size : length piece ≡ min n (length image - a)
+    piece_size = length-take n (drop a image) ∙ ap (min n) (length-drop a image)
 
-    left_size : length (piece ++ zeros (n - length piece)) ≡ n
-    left_size = omega (arith, length-append piece (zeros (n - length piece)), length_zeros (n - length piece), short)
+    front_fits : (k : ℕ) → length (take k image) ≤ size
+    front_fits k = omega (arith, length-take k image, fits)
 
-    right_size : length (take n (drop from (loaded size image))) ≡ n
-    right_size = length-take-le n (drop from (loaded size image)) (omega (arith, length-drop from (loaded size image), length_loaded size image fits, room))
+    before_size : length (loaded size (take a image)) ≡ size
+    before_size = length_loaded size (take a image) (front_fits a)
 
-    right : (i : ℕ) → i < n → get_or (take n (drop from (loaded size image))) i 0 ≡ get_or image (from + i) 0
-    right i h =
-        get_or-take n (drop from (loaded size image)) i 0 h ∙ (get_or-drop from (loaded size image) i 0 ∙ image_byte size image (from + i))
+    left_size : length (pasted (loaded size (take a image)) a piece) ≡ length (loaded size (take a image))
+    left_size = length_pasted (loaded size (take a image)) a piece (omega (arith, before_size, piece_size, room))
 
-    by : (i : ℕ) → i < n → (i < length piece) ⊎ (length piece ≤ i) → get_or (piece ++ zeros (n - length piece)) i 0 ≡ get_or (take n (drop from (loaded size image))) i 0
-    by i h (inl inside) =
-        get_or_append_left piece (zeros (n - length piece)) 0 i inside
-        ∙ (get_or-take n (drop from image) i 0 h ∙ (get_or-drop from image i 0 ∙ sym (right i h)))
-    by i h (inr past) =
-        get_or-append_right piece (zeros (n - length piece)) (length piece) i 0 refl past
-        ∙ (zero_at (n - length piece) (i - length piece)
-        ∙ (sym (get_or_past image (from + i) 0 (omega (arith, past, h, length-take n (drop from image), length-drop from image))) ∙ sym (right i h)))
+    by : (i : ℕ) → (i < a) ⊎ (a ≤ i) → (i < a + length piece) ⊎ (a + length piece ≤ i)
+        → get_or (pasted (loaded size (take a image)) a piece) i 0 ≡ get_or (take (a + n) image) i 0
+    by i (inl before) y =
+        pasted_before (loaded size (take a image)) a piece i (omega (arith, before_size, room)) before
+        ∙ (image_byte size (take a image) i
+        ∙ (get_or-take a image i 0 before ∙ sym (get_or-take (a + n) image i 0 (omega (arith, before)))))
+    by i (inr after) (inl inside) =
+        let there : a + (i - a) ≡ i = omega arith in
+        let within : i - a < n = omega (arith, after, inside, piece_size) in
+        pasted_inside (loaded size (take a image)) a piece i (omega (arith, before_size, room)) after inside
+        ∙ (get_or-take n (drop a image) (i - a) 0 within
+        ∙ (get_or-drop a image (i - a) 0
+        ∙ (ap (λ k. get_or image k 0) there ∙ sym (get_or-take (a + n) image i 0 (omega (arith, within, after))))))
+    by i (inr after) (inr past) =
+        pasted_after (loaded size (take a image)) a piece i (omega (arith, before_size, room)) past
+        ∙ (image_byte size (take a image) i
+        ∙ (get_or_past (take a image) i 0 (omega (arith, length-take a image, after))
+        ∙ sym (get_or_past (take (a + n) image) i 0 (omega (arith, length-take (a + n) image, past, piece_size)))))
 
 -- what is done of a memory, and what is still as it was
 mixed_before : (t r : List ℕ) (a k : ℕ) → a ≤ length t → k < a → get_or (take a t ++ drop a r) k 0 ≡ get_or t k 0

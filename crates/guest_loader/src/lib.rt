@@ -4,5 +4,5 @@
 mod loading;
 
 pub use arch_defs::Part;
-pub use loading::{fits, load};
+pub use loading::{fits, load, load_over_zeros};
 pub use phys_mem::PhysMem;

@@ -1,6 +1,6 @@
 // A guest's RAM is its image, and zeros behind it.
 
-ghost use Rattle.std.specs.Prelude.{◌≡◌, ◌+◌, ◌-◌, ◌*◌, ◌<◌, ◌≤◌, ◌↔◌, ◌++◌, length, take, drop, IsTrue};
+ghost use Rattle.std.specs.Prelude.{◌≡◌, ◌*◌, ◌<◌, ◌≤◌, ◌↔◌, length, slice_index, take, drop, IsTrue};
 ghost use Rattle.arch_defs.specs.Frames.{LieIn, Only, in_blocks};
 ghost use Rattle.arch_defs.specs.Memory.{block_size, loaded, pasted, zeros};
 ghost use Rattle.arch_defs.specs.Ram.{ram_of};
@@ -22,25 +22,65 @@ pub fn load(mem: &mut PhysMem, part: &Part, image: &[u8])
     ensures ram { ram_of part.now.blocks mem.new ≡ loaded (length part.now.blocks * block_size) image.now }
     ensures only { Only (in_blocks part.now.blocks) mem.old mem.new }
 {
+    clear(mem, part);
+    load_over_zeros(mem, part, image);
+}
+
+/// The same where the RAM is zeros: what lies behind the image is not written again.
+pub fn load_over_zeros(mem: &mut PhysMem, part: &Part, image: &[u8])
+    requires fits { length image.now ≤ length part.now.blocks * block_size }
+    requires inside { LieIn (in_blocks part.now.blocks) (length mem.old) }
+    requires zeros { ram_of part.now.blocks mem.old ≡ zeros (length part.now.blocks * block_size) }
+    ensures ram { ram_of part.now.blocks mem.new ≡ loaded (length part.now.blocks * block_size) image.now }
+    ensures only { Only (in_blocks part.now.blocks) mem.old mem.new }
+{
     for i in 0..part.blocks().len() {
         load_block(mem, part, i as u64, image);
     }
 }
 
-// Makes a block of RAM what it is to be.
-fn load_block(mem: &mut PhysMem, part: &Part, i: u64, image: &[u8])
+// Fills the RAM of a part with zeros.
+fn clear(mem: &mut PhysMem, part: &Part)
+    requires { LieIn (in_blocks part.now.blocks) (length mem.old) }
+    ensures ram { ram_of part.now.blocks mem.new ≡ zeros (length part.now.blocks * block_size) }
+    ensures only { Only (in_blocks part.now.blocks) mem.old mem.new }
+{
+    for i in 0..part.blocks().len() {
+        clear_block(mem, part, i as u64);
+    }
+}
+
+// Where a block of RAM begins in memory.
+fn place_of(part: &Part, i: u64) -> u64
+    requires { i < length part.now.blocks }
+    ensures { result ≡ slice_index part.now.blocks i * block_size }
+{
+    part.blocks()[i as usize] as u64 * BLOCK_SIZE
+}
+
+// Makes a block of RAM zeros.
+fn clear_block(mem: &mut PhysMem, part: &Part, i: u64)
     requires block { i < length part.now.blocks }
-    requires fits { length image.now ≤ length part.now.blocks * block_size }
     requires inside { LieIn (in_blocks part.now.blocks) (length mem.old) }
-    ensures ram { ram_of part.now.blocks mem.new ≡ pasted (ram_of part.now.blocks mem.old) (i * block_size)
-        (take block_size (drop (i * block_size) (loaded (length part.now.blocks * block_size) image.now))) }
+    ensures ram { ram_of part.now.blocks mem.new
+        ≡ pasted (ram_of part.now.blocks mem.old) (i * block_size) (zeros block_size) }
     ensures only { Only (in_blocks part.now.blocks) mem.old mem.new }
 {
     part.names_each_once();
-    let blocks = part.blocks();
-    let place = blocks[i as usize] as u64 * BLOCK_SIZE;
+    mem.clear(place_of(part, i), BLOCK_SIZE);
+}
+
+// Lays what a block of RAM is to be of an image over it, where it is zeros.
+fn load_block(mem: &mut PhysMem, part: &Part, i: u64, image: &[u8])
+    requires block { i < length part.now.blocks }
+    requires inside { LieIn (in_blocks part.now.blocks) (length mem.old) }
+    ensures ram { ram_of part.now.blocks mem.new ≡ pasted (ram_of part.now.blocks mem.old) (i * block_size)
+        (take block_size (drop (i * block_size) image.now)) }
+    ensures only { Only (in_blocks part.now.blocks) mem.old mem.new }
+{
+    part.names_each_once();
     let piece = piece_of(image, i as usize * BLOCK_SIZE as usize, BLOCK_SIZE as usize);
-    fill(mem, place, piece, BLOCK_SIZE);
+    mem.copy_in(place_of(part, i), piece);
 }
 
 // At most that many bytes of an image from a place on.
@@ -51,15 +91,4 @@ fn piece_of(image: &[u8], from: usize, most: usize) -> &[u8]
 {
     let rest = &image[from.min(image.len())..];
     &rest[..most.min(rest.len())]
-}
-
-// Lays a piece over memory, and zeros behind it up to that many bytes.
-#[tactic(auto, using(crate::proofs::Pieces::pasted_over))]
-fn fill(mem: &mut PhysMem, place: u64, piece: &[u8], size: u64)
-    requires short { length piece.now ≤ size }
-    requires inside { place + size ≤ length mem.old }
-    ensures { mem.new ≡ pasted mem.old place (piece.now ++ zeros (size - length piece.now)) }
-{
-    mem.clear(place, size);
-    mem.copy_in(place, piece);
 }
