@@ -32,7 +32,7 @@ use Rattle.machine_defs.specs.Tries.{try, try_under}
 use Rattle.arch_defs.specs.Inputs.{has_input}
 use Rattle.machine_defs.specs.Runs.{event_in, events, left_after, left_by, pc_and_word, run, trace_of}
 use Rattle.instruction_laws.specs.Renaming.{ReservesWithin, renamed}
-use Rattle.fill_laws.proofs.Running.{events_compose, runs_compose}
+use Rattle.fill_laws.proofs.Running.{events_compose, run_none, runs_compose}
 use Rattle.fill_laws.specs.Budgets.{NeedNoFill}
 use Rattle.fill_laws.proofs.Filling.{interrupted_misses_nothing}
 use Rattle.fill_laws.proofs.Orderly.{stays_orderly}
@@ -492,6 +492,17 @@ pub taken_is : (part : Layout) (hart own before : Virtual) (trapped : Bool) → 
 taken_is part hart own before trapped once held is =
     ap (λ saved. cond (trapped && not (is_virtual before.mode)) (after_hs_trap saved) saved)
     (ap (λ h. saved_in part h before) is ∙ saves_own part own before once held)
+
+-- after none of its steps the machine is what it was
+pub none_taken : (watch : Bool) (part : Layout) (pool : Pooled) (m : Machine) (memory : List ℕ) (limit t : ℕ) → m.platform.status ≡ Running → Lasts m.platform limit → IsAt part pool m memory → (taken : ℕ) → taken ≤ limit
+    → (q : Progress) → hart_steps watch taken (progress (loaded_in part (root_for part pool m.platform.virt) m.platform.virt) memory t false) ≡ Some q → taken ≡ 0
+    → m.platform ≡ moved m.platform (taken_back part q.state.virt q.trapped m.platform.virt) taken
+unfolding hart_steps
+none_taken watch part pool m memory limit t running lasts at zero h q e none =
+    let is = ran part pool m memory limit t running lasts at zero h q e in
+    ap (λ m. m.platform) (sym (run_none m zero (omega arith)) ∙ is.machine)
+    ∙ ap (λ virt. moved m.platform virt zero) (sym (taken_is part q.state.virt is.own m.platform.virt q.trapped at.once is.held is.stands.state))
+none_taken watch part pool m memory limit t running lasts at (suc n) h q e none = absurd (omega (arith, none))
 
 -- why an entry ended
 pub stopped : (part : Layout) (pool : Pooled) (m : Machine) (memory : List ℕ) (limit t : ℕ) (state : HartState) (changed : List ℕ) (t' taken : ℕ) (why : Why) → m.platform.status ≡ Running

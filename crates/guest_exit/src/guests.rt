@@ -72,12 +72,16 @@ impl Guest {
         self.set_pending_lines();
     }
 
-    /// The hart has made that many steps for the guest, the last of which was a trap into VS or was not.
+    /// The hart has made that many steps for the guest, the last of which was a trap into VS or was not. After
+    /// none of them the guest has what the hart has for it.
     pub(crate) fn take_steps(&mut self, hart: &HartState, trapped: bool, taken: u64)
         requires event { ForSome (next_event self.old.clock)
             (λ moment. self.old.clock.time + taken ≤ moment) }
         requires clock { self.old.clock.time + taken ≤ 2 ^ 63 }
         requires steps { self.old.steps + taken ≤ 2 ^ 61 }
+        requires current { with_pending_lines (platform_of self.old) ≡ platform_of self.old }
+        requires none { taken ≡ 0 → platform_of self.old ≡ moved (platform_of self.old)
+            (taken_back self.old.part hart.now.virt trapped self.old.virt) taken }
         ensures platform { platform_of self.new ≡ moved (platform_of self.old)
             (taken_back self.old.part hart.now.virt trapped self.old.virt) taken }
         ensures current { with_pending_lines (platform_of self.new) ≡ platform_of self.new }
@@ -86,6 +90,9 @@ impl Guest {
         ensures status { self.new.status ≡ self.old.status }
         ensures keeps { KeepsSpaces self.old self.new }
     {
+        if taken == 0 {
+            return;
+        }
         take_back(hart, &self.part, trapped, &mut self.virt);
         self.clock.advance(taken);
         self.steps += taken;

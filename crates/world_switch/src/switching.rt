@@ -10,8 +10,8 @@ ghost use Rattle.instruction_laws.specs.Renaming.{ReservesWithin, renamed, reser
 ghost use Rattle.world_switch.specs.Hosting.{after_hs_trap, all_interrupts, hosted_csrs, hosted_mode, is_space_root, loaded_in, own_address, own_reservation, root_at, saved_csrs, saved_in, saved_mode, saved_reservation, supervisor_with};
 
 use arch_defs::{
-    BLOCK_SIZE, Csrs, FOLDED_MODE, GuestRoot, HOST_MODE, HartState, HypervisorStatus, Interrupts,
-    Mode, Part, Regs, SupervisorCsrs, SupervisorRoot, SupervisorStatus, Tag, Virtual,
+    BLOCK_SIZE, Csrs, FOLDED_MODE, FirstBuffer, GuestRoot, HOST_MODE, HartState, HypervisorStatus,
+    Interrupts, Mode, Part, Regs, SupervisorCsrs, SupervisorRoot, SupervisorStatus, Tag, Virtual,
 };
 use csr_file::hedeleg_bits;
 use phys_mem::RAM_BASE;
@@ -81,7 +81,7 @@ fn set_others(virt: &Virtual, part: &Part, hart: &mut HartState)
     copy_registers(&virt.regs, &mut hart.virt.regs);
     hart.virt.mode = hosted_mode(virt.mode);
     place(part, virt.reservation, &mut hart.virt.reservation);
-    hart.virt.first.copy_from(&virt.first);
+    copy_translations(&virt.first, &mut hart.virt.first);
     hart.tag = tag_of(virt);
 }
 
@@ -91,6 +91,16 @@ fn copy_registers(from: &Regs, to: &mut Regs)
 {
     to.x = from.x;
     to.pc = from.pc;
+}
+
+// Copies the first-stage translations. A guest that has no table of its own has none.
+fn copy_translations(from: &FirstBuffer, to: &mut FirstBuffer)
+    ensures { to.new ≡ from.now }
+{
+    if from.as_slice().is_empty() && to.as_slice().is_empty() {
+        return;
+    }
+    to.copy_from(from);
 }
 
 /// Gives the guest that has this part what the hart has for it, by the guest's V. The reservation comes back
@@ -104,8 +114,8 @@ pub fn save(hart: &HartState, part: &Part, virt: &mut Virtual)
     save_csrs(&hart.virt.csrs, nested, &mut virt.csrs);
     copy_registers(&hart.virt.regs, &mut virt.regs);
     virt.mode = saved_mode(nested, hart.virt.mode);
-    virt.reservation = saved_reservation(part, hart.virt.reservation);
-    virt.first.copy_from(&hart.virt.first);
+    save_reservation(part, hart.virt.reservation, &mut virt.reservation);
+    copy_translations(&hart.virt.first, &mut virt.first);
 }
 
 fn save_csrs(hart: &Csrs, nested: bool, csrs: &mut Csrs)
@@ -148,13 +158,13 @@ fn place(part: &Part, reservation: Option<(u64, u8)>, hart: &mut Option<(u64, u8
     }
 }
 
-// The guest's reservation, by the one at a place in machine memory.
-fn saved_reservation(part: &Part, reservation: Option<(u64, u8)>) -> Option<(u64, u8)>
-    ensures { result ≡ saved_reservation part.now reservation }
+// Sets the guest's reservation, by the one at a place in machine memory.
+fn save_reservation(part: &Part, reservation: Option<(u64, u8)>, guest: &mut Option<(u64, u8)>)
+    ensures { guest.new ≡ saved_reservation part.now reservation }
 {
     match reservation {
-        Some((place, bytes)) => guest_reservation(part, place, bytes),
-        None => None,
+        Some((place, bytes)) => *guest = guest_reservation(part, place, bytes),
+        None => *guest = None,
     }
 }
 

@@ -5,7 +5,7 @@ use Rattle.guest_exit.specs.HartEntry.{IsStopped, is_watched, moved}
 use Rattle.guest_exit.specs.View.{KeepsSpaces, machine_of, platform_of}
 use Rattle.shadow_pool.specs.Slots.{Pooled, room_of, spaces_of}
 use Rattle.guest_exit.proofs.Alone.{machine_as}
-use Rattle.guest_exit.proofs.Entries.{ran, steps_from, stopped, taken_is}
+use Rattle.guest_exit.proofs.Entries.{none_taken, ran, steps_from, stopped, taken_is}
 use Rattle.guest_exit.proofs.Moments.{before_timer}
 use Rattle.guest_exit.proofs.Placed.{placed_after}
 use Rattle.guest_exit.proofs.hart_entry.enter.Goals as goal
@@ -77,6 +77,17 @@ returns-clause-why c =
       within = c.run-stop.ensures.within;
       why = subst (λ m. IsStopped part pool before m c.run-stop.new.memory c.args.limit c.run-stop.result.taken why) (sym (returns-clause-run c).steps) is;
     }
+
+pub take_steps-requires-clause-none : goal.take_steps-requires-clause-none
+take_steps-requires-clause-none c = λ none.
+    let guest = c.args.guest.now in
+    let can = c.requires.can in
+    let q = progress c.run-stop.new.self.state c.run-stop.new.memory c.run-stop.new.tally.trace (is_vs_trap c.run-stop.result.why) in
+    rw (c.is_vs_trap.ensures, c.state.ensures)
+    (none_taken (is_watched guest.virt) guest.part guest.pool (machine_of guest c.args.memory.now) c.args.memory.now c.args.limit c.args.tally.now.trace can.running can.lasts can.placed
+    c.run-stop.result.taken c.run-stop.ensures.within q
+    (steps_from (is_watched guest.virt) guest.part guest.pool guest.virt c.args.memory.now c.args.tally.now.trace c.run-stop.result.taken _
+    (rw (c.load.ensures.has, c.root_frame_of-root.ensures, c.is_watched-watch.ensures) at c.run-stop.ensures.steps)) none)
 
 pub take_steps-requires-clause-event : goal.take_steps-requires-clause-event
 take_steps-requires-clause-event c =

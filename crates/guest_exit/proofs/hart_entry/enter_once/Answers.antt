@@ -1,8 +1,8 @@
-use Rattle.std.proofs.Common.{◌≡◌, ◌+◌, ap, refl, subst, ◌∙◌, arith}
+use Rattle.std.proofs.Common.{◌≡◌, ◌+◌, ap, refl, subst, ◌∙◌, arith, true}
 use Rattle.rv64_hart.specs.Steps.{is_vs_trap, progress}
 use Rattle.guest_exit.specs.Steps.{MakesSteps}
 use Rattle.guest_exit.specs.View.{loaded_for, machine_of}
-use Rattle.guest_exit.proofs.Entries.{steps_from}
+use Rattle.guest_exit.proofs.Entries.{none_taken, steps_from}
 use Rattle.guest_exit.proofs.Moments.{before_timer}
 use Rattle.guest_exit.proofs.SingleEntries.{enters_once, left_once}
 use Rattle.guest_exit.proofs.StepEvents.{one_taken, other_shown, shown, trap_shown}
@@ -11,6 +11,17 @@ use Rattle.guest_exit.proofs.hart_entry.enter_once.Goals as goal
 pub take_steps-requires-clause-event : goal.take_steps-requires-clause-event
 take_steps-requires-clause-event c =
     before_timer c.args.guest.now.clock 1 c.run-stop.result.taken c.requires.can.lasts.timer c.run-stop.ensures.within
+
+pub take_steps-requires-clause-none : goal.take_steps-requires-clause-none
+take_steps-requires-clause-none c = λ none.
+    let guest = c.args.guest.now in
+    let can = c.requires.can in
+    let q = progress c.run-stop.new.self.state c.run-stop.new.memory c.run-stop.new.tally.trace (is_vs_trap c.run-stop.result.why) in
+    rw (c.is_vs_trap.ensures, c.state.ensures)
+    (none_taken true guest.part guest.pool (machine_of guest c.args.memory.now) c.args.memory.now 1 c.args.tally.now.trace can.running can.lasts can.placed
+    c.run-stop.result.taken c.run-stop.ensures.within q
+    (steps_from true guest.part guest.pool guest.virt c.args.memory.now c.args.tally.now.trace c.run-stop.result.taken _
+    (rw (c.load.ensures.has, c.root_frame_of-root.ensures) at c.run-stop.ensures.steps)) none)
 
 -- at the limit one step is made
 pub returns-in-Limit-clause-run : goal.returns-in-Limit-clause-run
