@@ -2,15 +2,17 @@
 use Rattle.std.proofs.Common.{true, ◌≡◌, ◌≢◌, ℕ, ◌+◌, ◌*◌, ◌<◌, ◌≤◌, ◌^◌, ◌⊎◌, inl, inr, Bool, false, ◌-◌, List, [], ◌∷◌, ◌++◌, length, get_or, map, refl, ap, sym, subst, ◌∙◌, arith}
 use Rattle.std.specs.List.{All}
 use Rattle.std.proofs.lemmas.Bool.{both_ways, cases_eq}
+use Rattle.std.proofs.lemmas.Grind.{same_number_lists}
 use Rattle.std.proofs.lemmas.List.{ext_get_or, get_or-map, get_or_append_left, get_or_default, get_or_push, length-map, length_push}
 use Rattle.arch_defs.specs.Frames.{Apart, Frames, LieIn, Only, Same, Within, in_blocks, most_frames, within}
 use Rattle.arch_defs.specs.Layouts.{Layout, Meets, NamesEachOnce, host_frames, in_tables, named_by, no_part}
 use Rattle.arch_defs.specs.Memory.{block_size, ram_base, zeros}
-use Rattle.arch_defs.specs.Ram.{SlicesLieIn, ram_of}
+use Rattle.arch_defs.specs.Ram.{SlicesLieIn, host_place, ram_of}
 use Rattle.arch_defs.specs.Spaces.{Space}
 use Rattle.arch_defs.proofs.FrameSets.{apart_sym, apart_within, kept, left_within, only_both, only_more, range_parts, same_fewer, within_apart}
 use Rattle.arch_defs.proofs.Images.{length_zeros}
-use Rattle.arch_defs.proofs.RamBlocks.{blocks_lie_in, ram_kept}
+use Rattle.arch_defs.proofs.RamBlocks.{blocks_lie_in, place_named, ram_kept, ram_length}
+use Rattle.arch_defs.proofs.SlicesOf.{byte_of}
 use Rattle.arch_defs.proofs.Rooms.{first_lies}
 use Rattle.fill_laws.specs.Keeping.{IsOrderly}
 use Rattle.frame_split.specs.Shares.{ArePairwiseApart, IsSplit, LeavesSpare, MeetEach, frames_with}
@@ -94,6 +96,7 @@ pub none_laid : (sources : List Source) (parts : List Layout) (size : ℕ) (memo
 none_laid sources parts size memory is = record {
   ram = λ i s d h. absurd (omega (arith, h));
   tables = λ i d h. absurd (omega (arith, h));
+  later = λ i d from h. record { each = λ at own. rw is (zeros_at size at) };
   spaces = λ i d from h. record { each = λ at own. rw is (zeros_at size at) };
   others = λ frames apart. record { each = λ at own. rw is (zeros_at size at) };
 }
@@ -112,6 +115,22 @@ table_leaves part old new once only =
     kept (space_tables part) (host_frames part) old new
     (apart_sym (host_frames part) (space_tables part) (host_apart part once part.spaces (omega arith))) only
 
+-- the RAM of a part that is not laid out is zeros
+pub ram_zeros : (part : Layout) (size : ℕ) (memory : List ℕ) → LieIn (named_by part) size → length memory ≡ size → AreZeros (in_blocks part.blocks) memory
+    → ram_of part.blocks memory ≡ zeros (length part.blocks * block_size)
+ram_zeros part size memory lies is are =
+    same_number_lists (ram_of part.blocks memory) (zeros (length part.blocks * block_size)) (counted ∙ sym (length_zeros (length part.blocks * block_size)))
+    (λ i h. by i (omega (arith, counted, h)) ∙ sym (zeros_at (length part.blocks * block_size) i))
+  where
+    lie : SlicesLieIn block_size part.blocks (length memory)
+    lie = blocks_lie_in part.blocks (length memory) (first_lies (in_blocks part.blocks) (in_tables part) (length memory) (rw is lies))
+
+    counted : length (ram_of part.blocks memory) ≡ length part.blocks * block_size
+    counted = ram_length part.blocks memory lie
+
+    by : (i : ℕ) → i < length part.blocks * block_size → get_or (ram_of part.blocks memory) i 0 ≡ 0
+    by i h = byte_of block_size part.blocks memory i (omega arith) lie h ∙ are.each (host_place part.blocks i) (place_named part.blocks i h)
+
 -- one part more is laid out
 earlier : (i j : ℕ) → j < i + 1 → j ≢ i → j < i
 earlier i j h other = omega (arith, h, other)
@@ -125,6 +144,7 @@ laid_more sources parts frames i source part memory between new split size insid
     record {
       ram = rams;
       tables = each_table;
+      later = each_later;
       spaces = each_spaces;
       others = λ frames apart.
           zeros_kept frames memory new
@@ -184,6 +204,15 @@ laid_more sources parts frames i source part memory between new split size insid
             table_stays (get_or parts j d) memory new
             (same_fewer (host_frames (get_or parts j d)) (named_by (get_or parts j d)) memory new (host_in_part (get_or parts j d)) (others j d j_in other))
             (laid.tables j d before)
+
+    each_later : (j : ℕ) (d : Layout) → i + 1 ≤ j → j < length parts → AreZeros (in_blocks (get_or parts j d).blocks) new
+    each_later j d from h =
+        let j_in : j < length sources = rw count at h in
+        let other : j ≢ i = λ same. absurd (omega (arith, from, same)) in
+        zeros_kept (in_blocks (get_or parts j d).blocks) memory new
+        (same_fewer (in_blocks (get_or parts j d).blocks) (named_by (get_or parts j d)) memory new
+        (left_within (in_blocks (get_or parts j d).blocks) (in_tables (get_or parts j d))) (others j d j_in other))
+        (laid.later j d (omega (arith, from)) h)
 
     each_spaces : (j : ℕ) (d : Layout) → 0 ≤ j → j < length parts → AreZeros (space_tables (get_or parts j d)) new
     each_spaces j d from h = by (cases_eq j i)
@@ -296,6 +325,7 @@ module _ (sources : List Source) (parts : List Layout) (i : ℕ) (part : Layout)
         (kept (host_frames (get_or parts j d)) (space_tables part) memory new
         (apart_at j d host_frames (rw count at h) host_in_part (host_apart part once part.spaces (omega arith))) only)
         (laid.tables j d h);
+    later = λ j d from h. absurd (omega (arith, from, h, count));
     spaces = λ j d from h.
         let other : j ≢ i = λ same. absurd (omega (arith, from, same)) in
         zeros_kept (space_tables (get_or parts j d)) memory new

@@ -122,13 +122,15 @@ pub record HaveParts (sources : List Source) (parts : List Layout) (size : ℕ) 
   pub whole : size ≡ frames * 4096
 
 -- the RAM of that many guests in machine memory is that of their machines, and their host tables are written.
--- The frames for the tables of the spaces of all guests but the first ones, whose spaces are made, are zeros,
--- and so are those that are in no part
+-- That of the others is zeros. The frames for the tables of the spaces of all guests but the first ones, whose
+-- spaces are made, are zeros, and so are those that are in no part
 pub record AreLaidOut (sources : List Source) (parts : List Layout) (done made : ℕ)
     (memory : List ℕ) : Type 0 where
   pub ram : (i : ℕ) (s : Source) (d : Layout) → i < done
       → ram_of (get_or parts i d).blocks memory ≡ (machine_of_source (get_or sources i s)).ram
   pub tables : (i : ℕ) (d : Layout) → i < done → IsHostTable (get_or parts i d) memory
+  pub later : (i : ℕ) (d : Layout) → done ≤ i → i < length parts
+      → AreZeros (in_blocks (get_or parts i d).blocks) memory
   pub spaces : (i : ℕ) (d : Layout) → made ≤ i → i < length parts
       → AreZeros (space_tables (get_or parts i d)) memory
   pub others : (frames : Frames)

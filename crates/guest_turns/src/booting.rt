@@ -17,7 +17,7 @@ use arch_defs::{FirstBuffer, Mode, Need, Part, Virtual};
 use console_dev::Console;
 use frame_split::{PlanFault, Split, plan};
 use guest_exit::{Guest, Pool};
-use guest_loader::load;
+use guest_loader::load_over_zeros;
 use guest_save::{Saved, Snapshot};
 use host_tables::build;
 use machine_defs::{GuestSpec, Status};
@@ -69,7 +69,7 @@ pub fn lay_out(memory: &mut PhysMem, sources: &[Source], parts: &[Part])
     for i in 0..sources.len() {
         let source = &sources[i];
         let part = &parts[i];
-        load(memory, part, source.image());
+        load_over_zeros(memory, part, source.image());
         build(memory, part, source.need().blocks);
     }
 }

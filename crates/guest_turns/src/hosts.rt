@@ -32,6 +32,7 @@ use crate::addresses::{hlv_place_in, place_in};
 use crate::booting::{guests_from, lay_out, share};
 use crate::free_blocks::FreeBlocks;
 use crate::memory_views::MemoryView;
+use crate::questions::{Question, answer_in};
 use crate::relocation::{MoveFault, Moves, shift};
 use crate::retirement::vacate;
 use crate::sources::{Source, fresh_sources};
@@ -280,6 +281,17 @@ impl Host {
     {
         let guest = &self.guests[g as usize];
         hlv_place_in(&mut self.memory, guest, wanted)
+    }
+
+    /// What answers a question about a guest that has not retired. Nothing changes.
+    pub fn ask<Q: Question>(&mut self, g: u32, question: &Q) -> Q::Answer
+        requires guest { g < length self.old.machines }
+        requires active { is_set self.old.retired g ≡ false }
+        ensures answer { Q.answers question.now (machine_at self.old.machines g) result }
+        ensures stays { self.new ≡ self.old }
+    {
+        let guest = &self.guests[g as usize];
+        answer_in(&mut self.memory, guest, question)
     }
 
     /// Appends the form of the machine of a guest that has not retired.
