@@ -1,6 +1,6 @@
 -- The reads of a whole command, and what its ends say of them.
 use Rattle.std.specs.List.{All}
-use Rattle.std.proofs.Common.{◌≡◌, ◌∙◌, ◌⊎◌, inl, inr, ℕ, zero, suc, ◌+◌, ◌<◌, ◌≤◌, List, [], ◌∷◌, ◌++◌, Option, Some, None, Result, Ok, Err, Bool, true, false, nat_le, length, refl, ap, sym, subst, arith, append_assoc}
+use Rattle.std.proofs.Common.{◌≡◌, ◌∙◌, ◌⊎◌, inl, inr, ℕ, zero, suc, ◌+◌, ◌<◌, ◌≤◌, List, [], ◌∷◌, ◌++◌, Option, Some, None, Result, Ok, Err, Bool, true, false, nat_le, length, map, refl, ap, sym, subst, arith}
 use Rattle.std.specs.Str.{is_utf8}
 use Rattle.command_line.specs.Commands.{Command, FileCommand, OnFiles, Work}
 use Rattle.std.specs.Borrow.{Bor}
@@ -29,12 +29,12 @@ use Rattle.nesthv_top.specs.declared.ends.LoadEnd.TheVariants.{Refused, ReadFaul
 use Rattle.nesthv_top.specs.Contents.{config_most, config_name, config_of, sources_of, stored_of}
 use Rattle.nesthv_top.specs.Endings.{IsFirstRead, SaysOfReads}
 use Rattle.nesthv_top.specs.Ends.{ended_by, IfFailed, Leaves}
-use Rattle.nesthv_top.specs.Loads.{all_read_for, frames_read, sources_with, IsAllRead, IsTested}
+use Rattle.nesthv_top.specs.Loads.{frames_read, source_read, HasPassed, IsAllRead, IsTested}
 use Rattle.nesthv_top.specs.Plans.{planned}
-use Rattle.nesthv_top.specs.Reads.{accepted_steps, ask, config_steps, fault_by, file_steps, frames_fault, absent_guest_fault, guests_steps, making, reading, report_steps, steps_for, testing, text_fault, BeginsWithConfig}
-use Rattle.nesthv_top.specs.Seen.{plan_seen, IsJob}
-use Rattle.nesthv_top.specs.Steps.{Step, asks_unless, fault_in, made_of, AreAnswered, ArePassed, AskedMore, IsNumberAfter, ReadStopsAs, StopAs}
-use Rattle.nesthv_top.proofs.GuestReads.{all_bootable, made_names, made_of_files}
+use Rattle.nesthv_top.specs.Reads.{accepted_steps, ask, config_steps, fault_by, file_steps, absent_guest_fault, making, reading, report_steps, steps_for, testing, text_fault, BeginsWithConfig}
+use Rattle.nesthv_top.specs.Seen.{names_of_sources, plan_seen, IsJob}
+use Rattle.nesthv_top.specs.Steps.{asks_unless, fault_in, made_of, AreAnswered, ArePassed, AskedMore, IsNumberAfter, ReadStopsAs, StopAs}
+use Rattle.nesthv_top.proofs.GuestReads.{all_bootable, made_names}
 use Rattle.nesthv_top.proofs.StepLists.{answered_none, answered_then, asked_none, asked_then, made_all, one_passed, one_stopped, passed_then, step_passed, step_refused, stop_answers_then, stopped_first, stopped_later}
 use Rattle.outside.proofs.Faults.{rose_since}
 
@@ -246,19 +246,12 @@ nothing_stored r (inr (inr (config, guest, is))) = rw is (refl, λ f. refl)
 abbrev pub file_frames : Files → Configuration → ℕ
 file_frames f c = frames_with (needs_of_sources (sources_of f c.guests)) c.spare
 
--- the steps of a configuration that is accepted
+-- the steps of a configuration that is accepted, and those of any
 pub steps_are : (f : Files) (command : FileCommand) (c : Configuration) → accept (config_of f command) ≡ Ok c
-    → file_steps f command ≡ config_steps f command ++ guests_steps f 0 c.guests ++ report_steps command ++ testing (frames_fault (file_frames f c)) ∷ []
+    → file_steps f command ≡ config_steps f command ++ accepted_steps f command (Ok c)
 unfolding file_steps
-steps_are f command c accepted =
-    let config = config_steps f command in
-    let guests = guests_steps f 0 c.guests in
-    let last : List Step = testing (frames_fault (file_frames f c)) ∷ [] in
-    ap (λ accepted. config ++ accepted_steps f command accepted) accepted
-    ∙ sym (append_assoc config (guests ++ report_steps command) last)
-    ∙ ap (λ steps. steps ++ last) (sym (append_assoc config guests (report_steps command)))
+steps_are f command c accepted = ap (λ accepted. config_steps f command ++ accepted_steps f command accepted) accepted
 
--- and those of any
 pub steps_begin : (f : Files) (command : FileCommand) → file_steps f command ≡ config_steps f command ++ accepted_steps f command (accept (config_of f command))
 unfolding file_steps
 steps_begin f command = refl
@@ -311,13 +304,12 @@ passed_says S command a old new made' passed first left = record {
 }
 
 -- memory ran out after all reads
-pub wanting_says : {X : Type 0} (S : stores.Ghosts X) (command : FileCommand) (made : ℕ) (old new : X) → 1 ≤ made
-    → ((f : Files) → S.files old ≡ Some f → ArePassed (file_steps f command) 0 (S.asked old) made (S.asked new)) → AreAnswered 0 (S.asked old) made (S.asked new)
+pub wanting_says : {X : Type 0} (S : stores.Ghosts X) (command : FileCommand) (made : ℕ) (old new : X) → HasPassed S command made old new
     → SaysOfReads S (Some (OnFiles command)) ended.Done old new → SaysOfReads S (Some (OnFiles command)) (ended.NoMemory made) old new
-wanting_says S command made old new some passed answered says = record {
-  first = later_first S command made old new some says.first;
-  reads = λ f told. inr (passed f told);
-  answers = answered;
+wanting_says S command made old new passed says = record {
+  first = later_first S command made old new passed.some says.first;
+  reads = λ f told. inr (passed.steps f told);
+  answers = passed.answered;
   number = tt;
   fault = λ f told. tt;
   stays = says.stays;
@@ -379,25 +371,22 @@ work_unwritten S seed size store = record {
   count = omega arith;
 }
 
--- the plan and the job of what was read
-pub frames_are : (f : Files) (c : Configuration) (read : List GuestFiles) → read ≡ all_read_for f c.guests → frames_read c.guests read c.spare ≡ file_frames f c
-frames_are f c read is =
-    ap (λ all_read. frames_read c.guests all_read c.spare) is ∙ ap (λ sources. frames_with (needs_of_sources sources) c.spare) (made_of_files f c.guests)
+-- the frames, the plan and the job of what was read
+pub frames_are : (f : Files) (c : Configuration) (read : List GuestFiles) (spare : ℕ) → map source_read read ≡ sources_of f c.guests → spare ≡ c.spare → frames_read read spare ≡ file_frames f c
+frames_are f c read spare made is = ap (λ sources. frames_with (needs_of_sources sources) spare) made ∙ ap (λ n. frames_with (needs_of_sources (sources_of f c.guests)) n) is
 
-pub plan_read : (f : Files) (command : FileCommand) (read : FilesRead) (job : Job) → IsAllRead f command read → fault_in (file_steps f command) ≡ None
-    → job.config ≡ read.config → job.sources.items ≡ sources_with read.config.guests read.guests.items → planned f command ≡ Some (plan_seen job)
+pub plan_read : (f : Files) (command : FileCommand) (job : Job) (read : FilesRead) → accept (config_of f command) ≡ Ok job.config → IsAllRead f command job.config read
+    → fault_in (file_steps f command) ≡ None → job.sources.items ≡ map source_read read.guests.items → planned f command ≡ Some (plan_seen job)
 unfolding planned
-plan_read f command read job is none config sources =
-    let made : job.sources.items ≡ sources_of f read.config.guests =
-    sources ∙ ap (sources_with read.config.guests) is.guests ∙ made_of_files f read.config.guests in
-    rw (none, is.config) (rw (made, config) refl)
+plan_read f command job read accepted is none sources =
+    let made : job.sources.items ≡ sources_of f job.config.guests = sources ∙ is.guests in
+    rw (none, accepted) (rw made refl)
 
-pub job_read : (read : FilesRead) (job : Job) → IsTested read → job.config ≡ read.config → job.sources.items ≡ sources_with read.config.guests read.guests.items → job.frames ≡ read.frames
-    → IsJob job
-job_read read job tested config sources frames = record {
-  limits = subst IsWithinLimits (sym config) tested.limits;
-  names = rw (config, sources) (made_names read.config.guests read.guests.items tested.guests);
-  sources = subst (All IsBootableSource) (sym sources) (all_bootable read.config.guests read.guests.items tested.limits.each_guest tested.guests);
-  frames = rw (frames, sources, config) tested.frames;
+pub job_read : (job : Job) (read : FilesRead) → IsWithinLimits job.config → IsTested job.config read → job.sources.items ≡ map source_read read.guests.items → job.frames ≡ read.frames → IsJob job
+job_read job read limits tested sources frames = record {
+  limits = limits;
+  names = ap names_of_sources sources ∙ made_names read.guests.items ∙ tested.guests.names;
+  sources = subst (All IsBootableSource) (sym sources) (all_bootable read.guests.items tested.guests.fitting);
+  frames = rw (frames, sources) tested.frames;
   few = rw frames tested.few;
 }

@@ -1,9 +1,9 @@
 -- What is read for guests, one after the other, and the guests that are made of it.
 use Rattle.std.specs.List.{All}
-use Rattle.std.proofs.Common.{◌≡◌, ◌∙◌, ℕ, zero, suc, ◌+◌, ◌<◌, ◌≤◌, List, [], ◌∷◌, ◌++◌, Option, Some, None, true, false, length, take, drop, get_or, refl, inl, ap, sym, subst, arith, append_assoc, add-one, length-append}
+use Rattle.std.proofs.Common.{◌≡◌, ◌∙◌, ℕ, zero, suc, ◌+◌, ◌<◌, ◌≤◌, List, [], ◌∷◌, ◌++◌, Option, Some, None, true, false, length, map, take, drop, get_or, refl, inl, ap, sym, subst, arith, append_assoc, add-one, length-append}
 use Rattle.std.proofs.lemmas.Bool.{le-leb, lt-leb}
 use Rattle.std.proofs.lemmas.List.{append-nil, map-append, take_all, take_more}
-use Rattle.std.proofs.lemmas.List.Elements.{All-nil, All-cons, All-head, All-tail}
+use Rattle.std.proofs.lemmas.List.Elements.{All-append, All-cons, All-map, All-nil}
 use Rattle.guest_save.specs.Deciding.{is_saved}
 use Rattle.guest_settings.specs.Inputs.{AreInputs}
 use Rattle.machine_defs.specs.Bootable.{IsBootable}
@@ -15,21 +15,20 @@ use Rattle.run_config.specs.declared.guests.InputSource.{InputSource}
 use Rattle.run_config.specs.declared.guests.InputSource.TheVariants.{Pairs, File}
 use Rattle.run_config.specs.declared.guests.FreshGuest.{FreshGuest}
 use Rattle.run_config.specs.declared.guests.Origin.{Origin}
-use Rattle.run_config.specs.declared.guests.Origin.TheVariants.{Fresh, Saved}
-use Rattle.run_config.specs.Configurations.{IsFreshWithin, IsGuestWithin, IsOriginWithin, IsSourceWithin}
+use Rattle.run_config.specs.declared.guests.Origin.TheVariants as origin
+use Rattle.run_config.specs.Configurations.{IsSourceWithin}
 use Rattle.run_config.proofs.Recording.{records_are_inputs}
 use Rattle.run_config.specs.declared.guests.GuestSettings.{GuestSettings}
 use Rattle.nesthv_top.specs.declared.ends.FreshFiles.{FreshFiles}
 use Rattle.nesthv_top.specs.declared.ends.GuestFiles.{GuestFiles}
-use Rattle.nesthv_top.specs.declared.ends.GuestFiles.TheVariants as files_read
-use Rattle.nesthv_top.specs.declared.ends.LoadEnd.{LoadEnd}
-use Rattle.nesthv_top.specs.Contents.{guest_of, guest_ram_size, inputs_from, source_by, sources_of}
-use Rattle.nesthv_top.specs.Loads.{all_read_for, read_by, read_for, source_with, sources_with, AreFitting, AreGood, FitsOrigin, IsFitting, IsFreshFitting}
+use Rattle.nesthv_top.specs.declared.ends.GuestFiles.TheVariants.{Fresh, Saved}
+use Rattle.nesthv_top.specs.Contents.{guest_ram_size, inputs_from, source_by, sources_of}
+use Rattle.nesthv_top.specs.Loads.{name_read, source_read, spec_read, AreGood, AreReadFor, IsFitting, IsFreshFitting}
 use Rattle.nesthv_top.specs.Reads.{guest_steps, guests_steps, image_fault, origin_steps, saved_fault}
 use Rattle.nesthv_top.specs.Plans.{name_of_source}
 use Rattle.nesthv_top.specs.Seen.{names_in, names_of_sources}
-use Rattle.nesthv_top.specs.Steps.{asks_in, ArePassed, IsShort, StopAs}
-use Rattle.nesthv_top.proofs.StepLists.{asked_none, asks_then, none_passed, passed_then, stopped_first, stopped_later}
+use Rattle.nesthv_top.specs.Steps.{asks_in, IsShort}
+use Rattle.nesthv_top.proofs.StepLists.{asked_none, asks_then}
 
 -- whether an image fits
 pub image_fits : (number : ℕ) (guest : FreshGuest) (image : List ℕ) → length image ≤ guest_ram_size guest → image_fault number guest image ≡ None
@@ -76,16 +75,19 @@ unfolding guests_steps
 none_steps files = refl
 
 -- what the files say for one guest more
-pub all_read_next : (files : Files) (settings : List GuestSettings) (i : ℕ) (guest : GuestSettings) (read : List GuestFiles) (one : GuestFiles) → i < length settings → guest ≡ get_or settings i guest
-    → read ≡ all_read_for files (take i settings) → one ≡ read_for files guest → read ++ one ∷ [] ≡ all_read_for files (take (suc i) settings)
-all_read_next files settings i guest read one inside is read_is one_is =
+pub sources_next : (files : Files) (settings : List GuestSettings) (i : ℕ) (guest : GuestSettings) (read : List GuestFiles) (one : GuestFiles) → i < length settings → guest ≡ get_or settings i guest
+    → map source_read read ≡ sources_of files (take i settings) → source_read one ≡ source_by files guest.name guest.origin
+    → map source_read (read ++ one ∷ []) ≡ sources_of files (take (suc i) settings)
+sources_next files settings i guest read one inside is read_is one_is =
     let more : take (suc i) settings ≡ take i settings ++ guest ∷ [] = rw (add-one i) at (take_more settings i guest inside ∙ ap (λ g. take i settings ++ g ∷ []) (sym is)) in
-    rw (more, read_is, one_is) (sym (map-append (read_for files) (take i settings) (guest ∷ [])))
+    rw more (map-append source_read read (one ∷ [])
+    ∙ ap (λ sources. sources ++ source_read one ∷ []) read_is ∙ ap (λ source. sources_of files (take i settings) ++ source ∷ []) one_is
+    ∙ sym (map-append (λ (g : GuestSettings). source_by files g.name g.origin) (take i settings) (guest ∷ [])))
 
 -- memory ran out before the first read
-asks_first : (files : Files) (number : ℕ) (origin : Origin) → 1 ≤ length (asks_in (origin_steps files number origin))
-asks_first files number (Fresh guest) = omega arith
-asks_first files number (Saved name) = omega arith
+asks_first : (files : Files) (number : ℕ) (begin : Origin) → 1 ≤ length (asks_in (origin_steps files number begin))
+asks_first files number (origin.Fresh guest) = omega arith
+asks_first files number (origin.Saved name) = omega arith
 
 pub short_first : (files : Files) (settings : List GuestSettings) (made : ℕ) (before : Option (List Ask)) → 1 ≤ length settings → IsShort (guests_steps files 0 settings) made made before before
 unfolding guests_steps
@@ -105,106 +107,52 @@ short_first files (guest ∷ rest) made before some = record {
 }
 
 -- what passes the tests
-pub fitting_none : AreFitting [] []
-unfolding AreFitting
-fitting_none = tt
+pub read_for_none : AreReadFor [] []
+read_for_none = record { names = refl; fitting = All-nil IsFitting }
 
-fitting_then : (settings : List GuestSettings) (read : List GuestFiles) (guest : GuestSettings) (one : GuestFiles) → AreFitting settings read → IsFitting guest one
-    → AreFitting (settings ++ guest ∷ []) (read ++ one ∷ [])
-unfolding AreFitting
-fitting_then [] [] guest one fit last = (last, tt)
-fitting_then [] (r ∷ read) guest one fit last = absurd fit
-fitting_then (s ∷ settings) [] guest one fit last = absurd fit
-fitting_then (s ∷ settings) (r ∷ read) guest one fit last = (fit.0, fitting_then settings read guest one fit.1 last)
-
-pub fitting_more : (settings : List GuestSettings) (i : ℕ) (guest : GuestSettings) (read : List GuestFiles) (one : GuestFiles) → i < length settings → guest ≡ get_or settings i guest
-    → AreFitting (take i settings) read → IsFitting guest one → AreFitting (take (i + 1) settings) (read ++ one ∷ [])
-fitting_more settings i guest read one inside is fit last =
+pub read_for_more : (settings : List GuestSettings) (i : ℕ) (guest : GuestSettings) (read : List GuestFiles) (one : GuestFiles) → i < length settings → guest ≡ get_or settings i guest
+    → AreReadFor (take i settings) read → name_read one ≡ guest.name → IsFitting one → AreReadFor (take (i + 1) settings) (read ++ one ∷ [])
+read_for_more settings i guest read one inside is before named fits =
     let more : take (i + 1) settings ≡ take i settings ++ guest ∷ [] = take_more settings i guest inside ∙ ap (λ g. take i settings ++ g ∷ []) (sym is) in
-    rw more (fitting_then (take i settings) read guest one fit last)
+    rw more (record {
+      names = map-append name_read read (one ∷ []) ∙ ap (λ names. names ++ name_read one ∷ []) before.names ∙ ap (λ name. names_in (take i settings) ++ name ∷ []) named
+          ∙ sym (map-append (λ (g : GuestSettings). g.name) (take i settings) (guest ∷ []));
+      fitting = All-append IsFitting read (one ∷ []) before.fitting (All-cons IsFitting one [] fits (All-nil IsFitting));
+    })
 
-pub fitting_whole : (settings : List GuestSettings) (i : ℕ) (read : List GuestFiles) → length settings ≤ i → AreFitting (take i settings) read → AreFitting settings read
-fitting_whole settings i read end fit = subst (λ guests. AreFitting guests read) (take_all i settings end) fit
+pub read_for_all : (settings : List GuestSettings) (i : ℕ) (read : List GuestFiles) → length settings ≤ i → AreReadFor (take i settings) read → AreReadFor settings read
+read_for_all settings i read end all = subst (λ guests. AreReadFor guests read) (take_all i settings end) all
 
-pub as_many : (settings : List GuestSettings) (read : List GuestFiles) → AreFitting settings read → length read ≡ length settings
-unfolding AreFitting
-as_many [] [] fit = refl
-as_many [] (r ∷ read) fit = absurd fit
-as_many (s ∷ settings) [] fit = absurd fit
-as_many (s ∷ settings) (r ∷ read) fit = ap suc (as_many settings read fit.1)
+-- the names of the guests that are made
+source_name : (read : GuestFiles) → name_of_source (source_read read) ≡ name_read read
+source_name (Fresh read) = refl
+source_name (Saved name saved) = refl
 
-pub fitting_at : (settings : List GuestSettings) (read : List GuestFiles) (i : ℕ) (guest : GuestSettings) (one : GuestFiles) → AreFitting settings read → i < length settings
-    → guest ≡ get_or settings i guest → one ≡ get_or read i one → IsFitting guest one
-unfolding AreFitting
-fitting_at [] read i guest one fit inside is one_is = absurd (omega (arith, inside))
-fitting_at (s ∷ settings) [] i guest one fit inside is one_is = absurd fit
-fitting_at (s ∷ settings) (r ∷ read) zero guest one fit inside is one_is = rw (is, one_is) fit.0
-fitting_at (s ∷ settings) (r ∷ read) (suc i) guest one fit inside is one_is = fitting_at settings read i guest one fit.1 (omega (arith, inside)) is one_is
-
--- the sources that are made
-pub made_none : (settings : List GuestSettings) → sources_with settings [] ≡ []
-unfolding sources_with
-made_none [] = refl
-made_none (settings ∷ others) = refl
-
-pub made_more : (settings : List GuestSettings) (guest : GuestSettings) (read : List GuestFiles) (one : GuestFiles) → length read < length settings → guest ≡ get_or settings (length read) guest
-    → sources_with settings (read ++ one ∷ []) ≡ sources_with settings read ++ source_with guest.name guest.origin one ∷ []
-unfolding sources_with
-made_more [] guest read one inside is = absurd (omega (arith, inside))
-made_more (s ∷ settings) guest [] one inside is =
-    ap (λ (g : GuestSettings). source_with g.name g.origin one ∷ sources_with settings []) (sym is)
-    ∙ ap (λ sources. source_with guest.name guest.origin one ∷ sources) (made_none settings)
-made_more (s ∷ settings) guest (r ∷ read) one inside is = ap (λ sources. source_with s.name s.origin r ∷ sources) (made_more settings guest read one (omega (arith, inside)) is)
-
-source_of_files : (files : Files) (name : List ℕ) (origin : Origin) → source_with name origin (read_by files origin) ≡ source_by files name origin
-source_of_files files name (Fresh guest) = refl
-source_of_files files name (Saved file) = refl
-
-pub made_of_files : (files : Files) (settings : List GuestSettings) → sources_with settings (all_read_for files settings) ≡ sources_of files settings
-unfolding sources_with
-made_of_files files [] = refl
-made_of_files files (s ∷ settings) =
-    ap (λ sources. source_with s.name s.origin (read_by files s.origin) ∷ sources) (made_of_files files settings)
-    ∙ ap (λ source. source ∷ sources_of files settings) (source_of_files files s.name s.origin)
-
-source_name : (name : List ℕ) (origin : Origin) (read : GuestFiles) → name_of_source (source_with name origin read) ≡ name
-source_name name origin (files_read.Fresh read) = refl
-source_name name origin (files_read.Saved saved) = refl
-
-pub made_names : (settings : List GuestSettings) (read : List GuestFiles) → AreFitting settings read → names_of_sources (sources_with settings read) ≡ names_in settings
-unfolding sources_with AreFitting
-made_names [] read fit = refl
-made_names (s ∷ settings) [] fit = absurd fit
-made_names (s ∷ settings) (r ∷ read) fit =
-    ap (λ name. name ∷ names_of_sources (sources_with settings read)) (source_name s.name s.origin r) ∙ ap (λ names. s.name ∷ names) (made_names settings read fit.1)
+pub made_names : (read : List GuestFiles) → names_of_sources (map source_read read) ≡ map name_read read
+made_names [] = refl
+made_names (one ∷ read) = ap (λ name. name ∷ names_of_sources (map source_read read)) (source_name one) ∙ ap (λ names. name_read one ∷ names) (made_names read)
 
 inputs_good : (source : InputSource) (bytes : List ℕ) → IsSourceWithin source → AreGood source bytes → AreInputs (inputs_from source bytes)
 inputs_good (Pairs inputs) bytes within good = within.inputs
 inputs_good (File name) bytes within good = records_are_inputs bytes good
 
-fresh_bootable : (name : List ℕ) (guest : FreshGuest) (read : FreshFiles) → IsFreshWithin guest → IsFreshFitting guest read → IsBootable (guest_of name guest read.image read.records)
-fresh_bootable name guest read within fit = record {
-  some_block = within.blocks_some;
-  blocks = within.blocks_most;
-  some_space = within.spaces_some;
-  spaces = within.spaces_most;
-  some_entries = within.entries_least;
-  entries = within.entries_most;
-  console = within.console_most;
-  image = fit.image;
-  inputs = inputs_good guest.input read.records within.input fit.records;
+-- they can be booted
+fresh_bootable : (read : FreshFiles) → IsFreshFitting read → IsBootable (spec_read read)
+fresh_bootable read fits = record {
+  some_block = fits.limits.blocks_some;
+  blocks = fits.limits.blocks_most;
+  some_space = fits.limits.spaces_some;
+  spaces = fits.limits.spaces_most;
+  some_entries = fits.limits.entries_least;
+  entries = fits.limits.entries_most;
+  console = fits.limits.console_most;
+  image = fits.image;
+  inputs = inputs_good read.guest.now.input read.records fits.limits.input fits.records;
 }
 
-pub made_bootable : (name : List ℕ) (origin : Origin) (read : GuestFiles) → IsOriginWithin origin → FitsOrigin origin read → IsBootableSource (source_with name origin read)
-made_bootable name (Fresh guest) (files_read.Fresh read) within fit = fresh_bootable name guest read within fit
-made_bootable name (Fresh guest) (files_read.Saved saved) within fit = absurd fit
-made_bootable name (Saved file) (files_read.Fresh read) within fit = absurd fit
-made_bootable name (Saved file) (files_read.Saved saved) within fit = fit
+made_bootable : (read : GuestFiles) → IsFitting read → IsBootableSource (source_read read)
+made_bootable (Fresh read) fits = fresh_bootable read fits
+made_bootable (Saved name saved) fits = fits
 
-pub all_bootable : (settings : List GuestSettings) (read : List GuestFiles) → All IsGuestWithin settings → AreFitting settings read → All IsBootableSource (sources_with settings read)
-unfolding sources_with AreFitting
-all_bootable [] read within fit = All-nil IsBootableSource
-all_bootable (s ∷ settings) [] within fit = absurd fit
-all_bootable (s ∷ settings) (r ∷ read) within fit =
-    All-cons IsBootableSource (source_with s.name s.origin r) (sources_with settings read) (made_bootable s.name s.origin r (All-head IsGuestWithin s settings within).origin fit.0)
-    (all_bootable settings read (All-tail IsGuestWithin s settings within) fit.1)
+pub all_bootable : (read : List GuestFiles) → All IsFitting read → All IsBootableSource (map source_read read)
+all_bootable read fits = All-map IsBootableSource source_read read (λ i d inside. made_bootable (get_or read i d) (fits i d inside))

@@ -7,6 +7,7 @@ pub mod GuestReads
 pub mod MovedShares
 pub mod MovingTurns
 pub mod OwnSections
+pub mod PlannedRuns
 pub mod Readings
 pub mod Reporting
 pub mod RetiredMachines

@@ -5,6 +5,7 @@ use Rattle.std.proofs.lemmas.List.{drop_all, get_or-set_other, get_or-set_same, 
 use Rattle.guest_turns.specs.Hosted.{Hosted, is_set, lowest, part_at, KeepsShares}
 use Rattle.guest_turns.specs.Moves.{HasMoved, HasRetired}
 use Rattle.nesthv_top.specs.Moving.{Shares, after_turn, blocks_at, turns_due, kept_turn, moved_by, own_turns, retires, retires_by, shares_of, with_move, with_moves, with_retired, with_retired_if}
+use Rattle.nesthv_top.specs.Runnings.{moves_by}
 use Rattle.nesthv_top.proofs.MovingTurns.{own_one, own_other}
 use Rattle.nesthv_top.proofs.Turning.{left_is}
 
@@ -138,6 +139,10 @@ who_retired kept turns first last h flags few active is =
 pub none_moved : (spare : ℕ) (kept : Option ℕ) (turns : List (ℕ × ℕ)) (shares : Shares) → spare ≡ 0 → moved_by spare kept turns shares ≡ shares
 none_moved zero kept turns shares none = refl
 none_moved (suc spare) kept turns shares none = absurd (omega (arith, none))
+
+pub each_moves : (spare : ℕ) (turns : List (ℕ × ℕ)) → spare ≢ 0 → moves_by spare turns ≡ length turns
+each_moves zero turns some = absurd (some refl)
+each_moves (suc spare) turns some = refl
 
 pub each_moved : (spare : ℕ) (kept : Option ℕ) (turns : List (ℕ × ℕ)) (shares : Shares) → spare ≢ 0 → moved_by spare kept turns shares ≡ with_moves kept 0 turns shares
 each_moved zero kept turns shares some = absurd (some refl)

@@ -6,6 +6,7 @@ use Rattle.std.proofs.lemmas.List.Concat.{flat_map-cons}
 use Rattle.std.specs.List.{flat_map, range_with_len}
 use Rattle.command_line.specs.Commands.{FileCommand}
 use Rattle.guest_turns.specs.declared.sources.Source.{Source}
+use Rattle.guest_turns.specs.declared.sources.Source.TheVariants as source
 use Rattle.guest_turns.specs.Hosted.{machine_at, no_machine}
 use Rattle.guest_turns.specs.Sources.{machine_of_source, machines_of_sources}
 use Rattle.guest_turns.specs.TurnLists.{own_steps}
@@ -18,8 +19,7 @@ use Rattle.run_config.specs.declared.guests.Origin.{Origin}
 use Rattle.run_config.specs.declared.guests.Origin.TheVariants.{Fresh, Saved}
 use Rattle.run_config.specs.Configurations.{Configuration}
 use Rattle.nesthv_top.specs.Contents.{source_by}
-use Rattle.nesthv_top.specs.Loads.{read_by, source_with}
-use Rattle.nesthv_top.specs.OwnSections.{no_settings, section_in, settings_at, EndsAlike, IsGivenTheSame, IsPlanOf, ReportIsSections, SectionsAreOwn}
+use Rattle.nesthv_top.specs.OwnSections.{no_settings, section_in, settings_at, EndsAlike, IsGivenTheSame, IsPlanOf, IsReadAlike, ReportIsSections, SectionsAreOwn}
 use Rattle.nesthv_top.specs.Plans.{Plan, machine_after, machines_of, name_of_source, plan_by, plan_if, plan_names, planned, report_of, sections}
 use Rattle.nesthv_top.specs.Reads.{file_steps}
 use Rattle.nesthv_top.specs.Steps.{fault_in}
@@ -62,15 +62,14 @@ unfolding report_of
 report_is_sections plan = sections_behind [] plan.sources plan.turns plan.spare
 
 -- where a guest comes from is what it is given
-source_is : (files : Files) (name : List ℕ) (origin : Origin) → source_by files name origin ≡ source_with name origin (read_by files origin)
-source_is files name (Fresh guest) = refl
-source_is files name (Saved file) = refl
+read_alike : (files files' : Files) (name : List ℕ) (origin : Origin) → IsReadAlike files files' origin → source_by files name origin ≡ source_by files' name origin
+read_alike files files' name (Fresh guest) (image, records) = rw (image, records) refl
+read_alike files files' name (Saved file) same = ap (source.Kept name) same
 
-same_source : (files files' : Files) (s s' : GuestSettings) → s.name ≡ s'.name → s.origin ≡ s'.origin → read_by files s.origin ≡ read_by files' s'.origin
+same_source : (files files' : Files) (s s' : GuestSettings) → s.name ≡ s'.name → s.origin ≡ s'.origin → IsReadAlike files files' s.origin
     → source_by files s.name s.origin ≡ source_by files' s'.name s'.origin
 same_source files files' s s' name origin read =
-    source_is files s.name s.origin ∙ ap (source_with s.name s.origin) read ∙ ap (λ name. source_with name s.origin (read_by files' s'.origin)) name
-    ∙ ap (λ origin. source_with s'.name origin (read_by files' s'.origin)) origin ∙ sym (source_is files' s'.name s'.origin)
+    read_alike files files' s.name s.origin read ∙ ap (λ name. source_by files' name s.origin) name ∙ ap (source_by files' s'.name) origin
 
 -- the plan is that of the configuration
 plan_some : (files : Files) (fault : Option ConfigFault) (c : Configuration) (plan : Plan) → plan_if files fault (Ok c) ≡ Some plan → plan_by files c ≡ plan

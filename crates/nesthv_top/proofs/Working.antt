@@ -1,5 +1,5 @@
 -- The guests of a seed and a size, their turns, and their lines.
-use Rattle.std.proofs.Common.{cond, ◌≡◌, ℕ, zero, suc, ◌+◌, ◌*◌, ◌<◌, ◌≤◌, ◌^◌, ◌==◌, List, [], ◌∷◌, ◌++◌, length, map, get_or, refl, ap, ◌∙◌, arith}
+use Rattle.std.proofs.Common.{cond, ◌≡◌, ℕ, zero, suc, ◌+◌, ◌*◌, ◌<◌, ◌≤◌, ◌^◌, ◌==◌, List, [], ◌∷◌, ◌++◌, length, map, get_or, None, refl, ap, sym, subst, ◌∙◌, arith}
 use Rattle.std.specs.List.{All, flat_map}
 use Rattle.std.proofs.lemmas.List.{length-map}
 use Rattle.std.proofs.lemmas.List.Elements.{All-nil, All-cons}
@@ -8,7 +8,7 @@ use Rattle.guest_turns.specs.declared.sources.Source.TheVariants.{Fresh}
 use Rattle.guest_turns.specs.Limits.{AreBootable}
 use Rattle.machine_defs.specs.Bootable.{IsBootable}
 use Rattle.guest_turns.specs.Sources.{AreBootableSources, IsBootableSource}
-use Rattle.guest_turns.proofs.Savables.{fresh_each}
+use Rattle.guest_turns.proofs.Savables.{fresh_each, fresh_needs}
 use Rattle.guest_turns.specs.TurnLists.{own_steps, with_turns}
 use Rattle.machine_defs.specs.Machine.{Machine, start}
 use Rattle.machine_defs.specs.Runs.{run}
@@ -17,7 +17,9 @@ use Rattle.turn_plan.specs.Turns.{rounds_of}
 use Rattle.turn_plan.proofs.Facts.{each_turn, length-rounds_of}
 use Rattle.work_images.specs.Guests.{guest, guest_name, guests}
 use Rattle.work_images.proofs.Images.{image_length}
+use Rattle.nesthv_top.specs.HostedRuns.{CanRun}
 use Rattle.nesthv_top.specs.Runnings.{lines_of, said_of, work_names}
+use Rattle.nesthv_top.specs.Seen.{plan_with}
 use Rattle.nesthv_top.specs.Works.{line_after, line_of, work_heading, work_text}
 use Rattle.nesthv_top.proofs.TurnEvents.{with_turns_are}
 
@@ -133,3 +135,14 @@ few_turns size most = omega (arith, length-rounds_of 4 1000 size, most)
 
 pub turns_within : (size : ℕ) → All (IsTurnWithin 4) (rounds_of 4 1000 size)
 turns_within size = each_turn (IsTurnWithin 4) 4 1000 size (λ g below. record { guest = below; steps = omega arith })
+
+-- so their plan can be run
+pub work_runs : (seed size : ℕ) → size ≤ 10000 → CanRun (plan_with (map Fresh (guests seed size)) (rounds_of 4 1000 size) 0) None
+work_runs seed size most = record {
+  sources = are_sources seed size most;
+  spare = omega arith;
+  frames = rw (fresh_needs (guests seed size)) (omega (arith, (are_bootable seed size most).frames));
+  few = few_turns size most;
+  short = subst (λ n. All (IsTurnWithin n) (rounds_of 4 1000 size)) (sym (length-map (guests seed size) Fresh ∙ four_guests seed size)) (turns_within size);
+  there = tt;
+}

@@ -1,6 +1,7 @@
 pub mod Contents
 pub mod Endings
 pub mod Ends
+pub mod HostedRuns
 pub mod Lines
 pub mod Loads
 pub mod Moving

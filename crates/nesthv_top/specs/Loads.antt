@@ -1,107 +1,93 @@
 -- What was read for guests, and the guests that are made of it.
-use Rattle.std.specs.Prelude.{⊤, ◌≡◌, ◌≤◌, ℕ, false, List, [], ◌∷◌, None, Ok, length, map}
+use Rattle.std.specs.Prelude.{⊤, ◌≡◌, ◌≤◌, ℕ, List, Option, Some, None, length, map}
+use Rattle.std.specs.List.{All}
 use Rattle.arch_defs.specs.Frames.{most_frames}
 use Rattle.command_line.specs.Commands.{FileCommand}
 use Rattle.frame_split.specs.Shares.{frames_with}
 use Rattle.guest_save.specs.Savable.{IsSavable}
+use Rattle.guest_settings.specs.declared.guests.GuestSpec.{GuestSpec}
 use Rattle.guest_turns.specs.declared.sources.Source.{Source}
 use Rattle.guest_turns.specs.declared.sources.Source.TheVariants as source
 use Rattle.guest_turns.specs.Sources.{needs_of_sources}
+use Rattle.outside.specs.declared.stores.Store as stores
 use Rattle.outside.specs.Files.{Files}
-use Rattle.run_config.specs.declared.guests.FreshGuest.{FreshGuest}
 use Rattle.run_config.specs.declared.guests.GuestSettings.{GuestSettings}
 use Rattle.run_config.specs.declared.guests.InputSource.{InputSource}
 use Rattle.run_config.specs.declared.guests.InputSource.TheVariants.{Pairs, File}
-use Rattle.run_config.specs.declared.guests.Origin.{Origin}
-use Rattle.run_config.specs.declared.guests.Origin.TheVariants.{Fresh, Saved}
 use Rattle.run_config.specs.Records.{bad_record}
-use Rattle.run_config.specs.Accept.{accept}
-use Rattle.run_config.specs.Configurations.{IsWithinLimits}
+use Rattle.run_config.specs.Configurations.{Configuration, IsFreshWithin}
 use Rattle.nesthv_top.specs.declared.ends.FreshFiles.{FreshFiles}
 use Rattle.nesthv_top.specs.declared.ends.GuestFiles.{GuestFiles}
-use Rattle.nesthv_top.specs.declared.ends.GuestFiles.TheVariants as files_read
+use Rattle.nesthv_top.specs.declared.ends.GuestFiles.TheVariants.{Fresh, Saved}
 use Rattle.nesthv_top.specs.declared.ends.FilesRead.{FilesRead}
-use Rattle.nesthv_top.specs.Contents.{config_of, guest_of, guest_ram_size, image_of, records_in, resumed_of, stored_of}
+use Rattle.nesthv_top.specs.declared.ends.Loaded.{Loaded}
+use Rattle.nesthv_top.specs.Contents.{guest_of, guest_ram_size, sources_of, stored_of}
+use Rattle.nesthv_top.specs.Plans.{planned}
+use Rattle.nesthv_top.specs.Reads.{file_steps}
+use Rattle.nesthv_top.specs.Seen.{loaded_plan, names_in, HasGuest, IsJob}
+use Rattle.nesthv_top.specs.Steps.{AreAnswered, ArePassed}
 
--- what the files say for a fresh guest, for any guest, and for guests
-abbrev pub fresh_read : Files → FreshGuest → FreshFiles
-fresh_read files guest = record { image = image_of files guest; records = records_in files guest.input }
+-- the guest that what was read for it makes: a fresh one, and any
+abbrev pub spec_read : FreshFiles → GuestSpec
+spec_read read = guest_of read.name.now read.guest.now read.image read.records
 
-abbrev pub read_by : Files → Origin → GuestFiles
-read_by files (Fresh guest) = files_read.Fresh (fresh_read files guest)
-read_by files (Saved name) = files_read.Saved (resumed_of files name)
+abbrev pub source_read : GuestFiles → Source
+source_read (Fresh read) = source.Fresh (spec_read read)
+source_read (Saved name saved) = source.Kept name.now saved
 
-abbrev pub read_for : Files → GuestSettings → GuestFiles
-read_for files settings = read_by files settings.origin
-
-abbrev pub all_read_for : Files → List GuestSettings → List GuestFiles
-all_read_for files settings = map (read_for files) settings
+-- its name
+abbrev pub name_read : GuestFiles → List ℕ
+name_read (Fresh read) = read.name.now
+name_read (Saved name saved) = name.now
 
 -- inputs come from bytes without a bad record, or from no file
 abbrev pub AreGood : InputSource → List ℕ → Type 0
 AreGood (Pairs inputs) bytes = ⊤
 AreGood (File name) bytes = bad_record bytes ≡ None
 
--- what was read passes the tests of its fresh guest
-pub record IsFreshFitting (guest : FreshGuest) (read : FreshFiles) : Type 0 where
-  pub image : length read.image ≤ guest_ram_size guest
-  pub records : AreGood guest.input read.records
+-- what was read passes the tests of a fresh guest
+pub record IsFreshFitting (read : FreshFiles) : Type 0 where
+  pub limits : IsFreshWithin read.guest.now
+  pub image : length read.image ≤ guest_ram_size read.guest.now
+  pub records : AreGood read.guest.now.input read.records
 
 -- and of any guest: for a resumed one, a machine that can be saved
-abbrev pub FitsOrigin : Origin → GuestFiles → Type 0
-FitsOrigin (Fresh guest) (files_read.Fresh read) = IsFreshFitting guest read
-FitsOrigin (Fresh guest) (files_read.Saved saved) = ⊥
-FitsOrigin (Saved name) (files_read.Fresh read) = ⊥
-FitsOrigin (Saved name) (files_read.Saved saved) = IsSavable saved.machine
+abbrev pub IsFitting : GuestFiles → Type 0
+IsFitting (Fresh read) = IsFreshFitting read
+IsFitting (Saved name saved) = IsSavable saved.machine
 
-abbrev pub IsFitting : GuestSettings → GuestFiles → Type 0
-IsFitting settings read = FitsOrigin settings.origin read
-
--- the same of guests, one after the other
-unfoldable pub AreFitting : List GuestSettings → List GuestFiles → Type 0
-AreFitting [] [] = ⊤
-AreFitting [] (read ∷ rest) = ⊥
-AreFitting (settings ∷ others) [] = ⊥
-AreFitting (settings ∷ others) (read ∷ rest) = IsFitting settings read × AreFitting others rest
-
--- the fresh guest that settings begin with, which is none where they begin with a saved machine
-abbrev pub fresh_in : Origin → FreshGuest
-fresh_in (Fresh guest) = guest
-fresh_in (Saved name) = record {
-  image = [];
-  blocks = 0;
-  spaces = 0;
-  entries = 0;
-  console = 0;
-  device = false;
-  input = Pairs [];
-}
-
--- where a guest comes from, with what was read for it, and guests
-abbrev pub source_with : List ℕ → Origin → GuestFiles → Source
-source_with name origin (files_read.Fresh read) =
-    source.Fresh (guest_of name (fresh_in origin) read.image read.records)
-source_with name origin (files_read.Saved saved) = source.Kept name saved
-
-unfoldable pub sources_with : List GuestSettings → List GuestFiles → List Source
-sources_with [] all_read = []
-sources_with (settings ∷ others) [] = []
-sources_with (settings ∷ others) (read ∷ rest) =
-    source_with settings.name settings.origin read ∷ sources_with others rest
+-- it was read for guests of these settings, and passes their tests
+pub record AreReadFor (settings : List GuestSettings) (read : List GuestFiles) : Type 0 where
+  pub names : map name_read read ≡ names_in settings
+  pub fitting : All IsFitting read
 
 -- the frames that guests and that many spare blocks need
-abbrev pub frames_read : List GuestSettings → List GuestFiles → ℕ → ℕ
-frames_read settings all_read spare = frames_with (needs_of_sources (sources_with settings all_read)) spare
+abbrev pub frames_read : List GuestFiles → ℕ → ℕ
+frames_read read spare = frames_with (needs_of_sources (map source_read read)) spare
 
--- all that was read for a command is what the files say
-pub record IsAllRead (files : Files) (command : FileCommand) (read : FilesRead) : Type 0 where
-  pub config : accept (config_of files command) ≡ Ok read.config
-  pub guests : read.guests.items ≡ all_read_for files read.config.guests
+-- all that was read beside a configuration is what the files say
+pub record IsAllRead (files : Files) (command : FileCommand) (c : Configuration) (read : FilesRead)
+    : Type 0 where
+  pub guests : map source_read read.guests.items ≡ sources_of files c.guests
   pub stored : read.stored.items ≡ stored_of files command
 
 -- it passed all tests
-pub record IsTested (read : FilesRead) : Type 0 where
-  pub limits : IsWithinLimits read.config
-  pub guests : AreFitting read.config.guests read.guests.items
-  pub frames : read.frames ≡ frames_read read.config.guests read.guests.items read.config.spare
+pub record IsTested (c : Configuration) (read : FilesRead) : Type 0 where
+  pub guests : AreReadFor c.guests read.guests.items
+  pub frames : read.frames ≡ frames_read read.guests.items c.spare
   pub few : read.frames ≤ most_frames
+
+-- all reads and tests of a command have been passed, and that many reads were made
+pub record HasPassed {X : Type 0} (S : stores.Ghosts X) (command : FileCommand) (made : ℕ) (old new : X)
+    : Type 0 where
+  pub steps : (files : Files) → S.files old ≡ Some files
+      → ArePassed (file_steps files command) 0 (S.asked old) made (S.asked new)
+  pub answered : AreAnswered 0 (S.asked old) made (S.asked new)
+  pub some : 1 ≤ made
+
+-- what was loaded is what a command needs: where the store tells its files, it is what these say
+pub record IsLoaded (told : Option Files) (command : FileCommand) (loaded : Loaded) : Type 0 where
+  pub plan : (files : Files) → told ≡ Some files → planned files command ≡ Some (loaded_plan loaded)
+  pub stored : (files : Files) → told ≡ Some files → loaded.stored.items ≡ stored_of files command
+  pub job : IsJob loaded.job
+  pub guest : HasGuest command loaded.job.config

@@ -6,11 +6,11 @@ use Rattle.guest_turns.specs.TurnLists.{own_steps}
 use Rattle.machine_defs.specs.Report.{section_of}
 use Rattle.outside.specs.Files.{Files}
 use Rattle.run_config.specs.declared.guests.GuestSettings.{GuestSettings}
-use Rattle.run_config.specs.declared.guests.Origin.TheVariants.{Saved}
+use Rattle.run_config.specs.declared.guests.Origin.{Origin}
+use Rattle.run_config.specs.declared.guests.Origin.TheVariants.{Fresh, Saved}
 use Rattle.run_config.specs.Accept.{accept}
 use Rattle.run_config.specs.Configurations.{Configuration}
-use Rattle.nesthv_top.specs.Contents.{config_of}
-use Rattle.nesthv_top.specs.Loads.{read_for}
+use Rattle.nesthv_top.specs.Contents.{config_of, image_of, records_in, resumed_of}
 use Rattle.nesthv_top.specs.Plans.{Plan, machine_after, plan_names, planned, report_of}
 
 -- the section of the guest of this number: its name, and its lone machine after the steps of its own turns
@@ -34,6 +34,12 @@ pub record IsPlanOf (files : Files) (command : FileCommand) (c : Configuration) 
   pub accepted : accept (config_of files command) ≡ Ok c
   pub planned : planned files command ≡ Some plan
 
+-- the same is read of the files that a guest begins with
+abbrev pub IsReadAlike : Files → Files → Origin → Type 0
+IsReadAlike files files' (Fresh guest) = (image_of files guest ≡ image_of files' guest)
+    × (records_in files guest.input ≡ records_in files' guest.input)
+IsReadAlike files files' (Saved name) = resumed_of files name ≡ resumed_of files' name
+
 -- two configurations, each on a store of its own, give a guest the same: its name and its settings, what is
 -- read of the files that these name, and the sum of the steps of its own turns. Nothing is said of its number
 -- and its weight, nor of the other guests: how many there are, what they are given, and what they do
@@ -42,7 +48,7 @@ pub record IsGivenTheSame (files files' : Files) (c c' : Configuration) (g g' : 
   pub inside' : g' < length c'.guests
   pub name : (settings_at c g).name ≡ (settings_at c' g').name
   pub origin : (settings_at c g).origin ≡ (settings_at c' g').origin
-  pub read : read_for files (settings_at c g) ≡ read_for files' (settings_at c' g')
+  pub read : IsReadAlike files files' (settings_at c g).origin
   pub steps : own_steps g c.turns ≡ own_steps g' c'.turns
 
 -- the guests of two plans end alike: with the same machine, and so with the same form, and the same section

@@ -5,6 +5,7 @@ use Rattle.outside.specs.Faults.{Rose}
 use Rattle.outside.specs.Pieces.{Appends, Puts}
 use Rattle.nesthv_top.specs.declared.ends.RunEnd.{RunEnd}
 use Rattle.nesthv_top.specs.declared.ends.RunEnd.TheVariants.{NoMemory, WriteFault}
+use Rattle.nesthv_top.specs.Lines.{memory_line}
 
 -- a text was written whole, or a front of it, or nothing
 abbrev pub IsWritten : {S A : Type 0} → (S → List ℕ → Type 0) → S → S → Result A RunEnd → List ℕ → Type 0
@@ -24,3 +25,11 @@ pub record Writes {Y A : Type 0} (O : sinks.Ghosts Y) (result : Result A RunEnd)
 abbrev pub IsLinePut : {Z : Type 0} → sinks.Ghosts Z → Z → Z → List ℕ → Type 0
 IsLinePut E old new line = (whole : Bool) × Puts E.stands_for old new whole line
     × (whole ≡ false → Rose (E.faults old) (E.faults new))
+
+-- a program without its words: memory ran out for them, which its line tells, and nothing else was done
+pub record IsWordless {X Y Z : Type 0} (E : sinks.Ghosts Z) (status : ℕ) (store store' : X) (out out' : Y)
+    (err err' : Z) : Type 0 where
+  pub short : status ≡ 5
+  pub line : IsLinePut E err err' memory_line
+  pub unread : store' ≡ store
+  pub unwritten : out' ≡ out

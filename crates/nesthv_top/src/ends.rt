@@ -6,10 +6,10 @@ ghost use Rattle.nesthv_top.specs.declared.ends.RunEnd.TheVariants as run_end;
 
 use guest_save::Saved;
 use guest_turns::Source;
-use machine_defs::Bytes;
+use machine_defs::{Bytes, Name};
 use no_memory::NoMemory;
 use outside::SinkFault;
-use run_config::{Config, ConfigFault};
+use run_config::{Config, ConfigFault, FreshGuest};
 
 /// Why a configuration gave no job. Reads are numbered from 1; out of memory tells how many were made.
 #[derive(Clone, Copy)]
@@ -20,26 +20,27 @@ pub enum LoadEnd {
 }
 
 /// What was read for a fresh guest: its image, and the file that its inputs come from, which is nothing where
-/// they come from none.
+/// they come from none. With it stand its name and what the configuration says of it.
 #[derive(Drop)]
-pub struct FreshFiles {
+pub struct FreshFiles<'a> {
+    pub name: &'a Name,
+    pub guest: &'a FreshGuest,
     pub image: Bytes,
     pub records: Bytes,
 }
 
-/// What was read for a guest: its files, or its saved machine.
+/// What was read for a guest: the files of a fresh one, or a saved machine, with its name.
 #[derive(Drop)]
-pub enum GuestFiles {
-    Fresh(FreshFiles),
-    Saved(Saved),
+pub enum GuestFiles<'a> {
+    Fresh(FreshFiles<'a>),
+    Saved(&'a Name, Saved),
 }
 
-/// All that was read for a command: its configuration, what was read for each guest, the frames that all
-/// need, and the stored report that it names, which is nothing where it names none.
+/// All that was read for a command beside its configuration: what was read for each guest, the frames that
+/// all need, and the stored report that it names, which is nothing where it names none.
 #[derive(Drop)]
-pub struct FilesRead {
-    pub config: Config,
-    pub guests: Vec<GuestFiles>,
+pub struct FilesRead<'a> {
+    pub guests: Vec<GuestFiles<'a>>,
     pub frames: u64,
     pub stored: Vec<u8>,
 }

@@ -1,6 +1,6 @@
 // What a command names is read and tested, and then the sources of its guests are made.
 
-ghost use Rattle.std.specs.Prelude.{◌≡◌, ◌*◌, ◌^◌, ◌<◌, ◌≤◌, [], ◌∷◌, Some, Ok, length, IfOk, OnOk};
+ghost use Rattle.std.specs.Prelude.{◌≡◌, ◌*◌, ◌^◌, ◌<◌, ◌≤◌, [], ◌∷◌, Some, Ok, length, map, IfOk, OnOk};
 ghost use Rattle.std.specs.List.{All};
 ghost use Rattle.command_line.specs.Commands.{OnFiles};
 ghost use Rattle.command_line.specs.Seen.{file_command_seen};
@@ -8,19 +8,16 @@ ghost use Rattle.frame_split.specs.Shares.{frames_of_all};
 ghost use Rattle.guest_save.specs.Savable.{IsSavable};
 ghost use Rattle.guest_settings.specs.Needs.{IsNeed};
 ghost use Rattle.guest_turns.specs.Sources.{need_of_source, needs_of_sources};
-ghost use Rattle.nesthv_top.specs.declared.ends.GuestFiles.TheVariants.{Fresh};
 ghost use Rattle.outside.specs.Faults.{Rose};
-ghost use Rattle.outside.specs.Files.{Files};
 ghost use Rattle.run_config.specs.Accept.{accept};
+ghost use Rattle.run_config.specs.declared.guests.Origin.TheVariants.{Fresh};
 ghost use Rattle.run_config.specs.Configurations.{IsFreshWithin, IsGuestWithin, IsWithinLimits};
-ghost use Rattle.nesthv_top.specs.Contents.{config_name, config_of, guest_of, guest_ram_size, image_of, inputs_from, records_in, resumed_of, stored_of};
+ghost use Rattle.nesthv_top.specs.Contents.{config_name, config_of, guest_ram_size, image_of, inputs_from, records_in, resumed_of, source_by, sources_of, stored_of};
 ghost use Rattle.nesthv_top.specs.Endings.{IsFirstRead, SaysOfReads};
 ghost use Rattle.nesthv_top.specs.Ends.{ended_of, HasRead, IfReadFailed};
-ghost use Rattle.nesthv_top.specs.Loads.{all_read_for, frames_read, fresh_in, fresh_read, read_for, source_with, sources_with, AreFitting, AreGood, FitsOrigin, IsAllRead, IsFitting, IsFreshFitting, IsTested};
-ghost use Rattle.nesthv_top.specs.Plans.{planned};
-ghost use Rattle.nesthv_top.specs.Reads.{config_steps, file_steps, frames_fault, fresh_steps, absent_guest_fault, guest_steps, guests_steps, image_step, input_steps, report_steps, saved_steps};
-ghost use Rattle.nesthv_top.specs.Seen.{loaded_plan, HasGuest, IsJob};
-ghost use Rattle.nesthv_top.specs.Steps.{AreAnswered, ArePassed};
+ghost use Rattle.nesthv_top.specs.Loads.{frames_read, name_read, source_read, spec_read, AreGood, AreReadFor, HasPassed, IsAllRead, IsFitting, IsFreshFitting, IsLoaded, IsTested};
+ghost use Rattle.nesthv_top.specs.Reads.{accepted_steps, config_steps, frames_fault, fresh_steps, absent_guest_fault, guest_steps, guests_steps, image_step, input_steps, report_steps, saved_steps};
+ghost use Rattle.nesthv_top.specs.Seen.{HasGuest};
 
 use crate::ends::{FilesRead, FreshFiles, GuestFiles, Job, LoadEnd, Loaded};
 use crate::reads::Reads;
@@ -60,28 +57,18 @@ pub fn load<S: Store>(
     requires none { reads.old.made ≡ 0 }
     ensures reads { SaysOfReads S.Store (Some (OnFiles (file_command_seen request.entry))) (ended_of result)
         store.old store.new }
-    ensures passed { (files : Files) → S.files store.old ≡ Some files → OnOk result (ArePassed
-        (file_steps files (file_command_seen request.entry)) 0 (S.asked store.old)
-        reads.new.made (S.asked store.new)) }
-    ensures answered { OnOk result
-        (AreAnswered 0 (S.asked store.old) reads.new.made (S.asked store.new)) }
-    ensures some { OnOk result (1 ≤ reads.new.made) }
     ensures cause { IfReadFailed result (Rose (S.faults store.old) (S.faults store.new)) }
-    ensures planned { (files : Files) → S.files store.old ≡ Some files → IfOk result (λ loaded.
-        planned files (file_command_seen request.entry) ≡ Some (loaded_plan loaded)) }
-    ensures stored { (files : Files) → S.files store.old ≡ Some files → IfOk result (λ loaded.
-        loaded.stored.items ≡ stored_of files (file_command_seen request.entry)) }
-    ensures job { IfOk result (λ loaded. IsJob loaded.job) }
-    ensures guest { IfOk result (λ loaded.
-        HasGuest (file_command_seen request.entry) loaded.job.config) }
+    ensures passed { OnOk result
+        (HasPassed S.Store (file_command_seen request.entry) reads.new.made store.old store.new) }
+    ensures loaded { IfOk result (IsLoaded (S.files store.old) (file_command_seen request.entry)) }
 {
+    let config = read_config(alloc, request, reads, store)?;
     let FilesRead {
-        config,
         guests,
         frames,
         stored,
-    } = read_files(alloc, request, reads, store)?;
-    match sources_made(alloc, config.guests(), guests) {
+    } = read_files(alloc, request, &config, reads, store)?;
+    match sources_made(alloc, guests) {
         Ok(sources) => Ok(Loaded {
             job: Job {
                 config,
@@ -94,31 +81,28 @@ pub fn load<S: Store>(
     }
 }
 
-// Reads all files that a command names, and makes all tests of them.
-fn read_files<S: Store>(
+// Reads the other files that a command names, and makes all tests of them.
+fn read_files<'a, S: Store>(
     alloc: Global,
     request: FileRequest<'_>,
+    config: &'a Config,
     reads: &mut Reads,
     store: &mut S,
-) -> Result<FilesRead, LoadEnd>
-    requires none { reads.old.made ≡ 0 }
-    ensures read { HasRead S.Store (λ files. file_steps files (file_command_seen request.entry)) 34
-        (λ files. IsAllRead files (file_command_seen request.entry)) result
-        store.old store.new 0 reads.new.made }
-    ensures first { IsFirstRead S.Store (Some (OnFiles (file_command_seen request.entry))) (ended_of result)
-        store.old store.new }
-    ensures some { OnOk result (1 ≤ reads.new.made) }
-    ensures tested { IfOk result IsTested }
-    ensures guest { IfOk result (λ read. HasGuest (file_command_seen request.entry) read.config) }
+) -> Result<FilesRead<'a>, LoadEnd>
+    requires early { reads.old.made ≤ 1 }
+    requires limits { IsWithinLimits config.now }
+    ensures read { HasRead S.Store (λ files.
+        accepted_steps files (file_command_seen request.entry) (Ok config.now)) 33
+        (λ files. IsAllRead files (file_command_seen request.entry) config.now) result
+        store.old store.new reads.old.made reads.new.made }
+    ensures tested { IfOk result (IsTested config.now) }
 {
-    let config = read_config(alloc, request, reads, store)?;
     let guests = read_guests(alloc, config.guests(), reads, store)?;
     let stored = read_stored(alloc, request, reads, store)?;
-    let frames = all_frames(&config, guests.as_slice());
+    let frames = all_frames(guests.as_slice(), config.spare());
     match frames_fault(frames) {
         Some(fault) => Err(LoadEnd::Refused(fault)),
         None => Ok(FilesRead {
-            config,
             guests,
             frames,
             stored,
@@ -179,20 +163,20 @@ fn guest_fault(request: FileRequest<'_>, config: &Config) -> Option<ConfigFault>
 }
 
 // Reads the files of guests, in their order, up to the first that fails its test.
-fn read_guests<S: Store>(
+fn read_guests<'a, S: Store>(
     alloc: Global,
-    settings: &[GuestSettings],
+    settings: &'a [GuestSettings],
     reads: &mut Reads,
     store: &mut S,
-) -> Result<Vec<GuestFiles>, LoadEnd>
+) -> Result<Vec<GuestFiles<'a>>, LoadEnd>
     requires some { 1 ≤ length settings.now }
     requires few { length settings.now ≤ 16 }
     requires early { reads.old.made ≤ 1 }
     requires each { All IsGuestWithin settings.now }
     ensures read { HasRead S.Store (λ files. guests_steps files 0 settings.now) 32
-        (λ files guests. guests.items ≡ all_read_for files settings.now) result
+        (λ files guests. map source_read guests.items ≡ sources_of files settings.now) result
         store.old store.new reads.old.made reads.new.made }
-    ensures fitting { IfOk result (λ guests. AreFitting settings.now guests.items) }
+    ensures fitting { IfOk result (λ guests. AreReadFor settings.now guests.items) }
 {
     let Ok(mut guests) = Vec::with_capacity(alloc, settings.len()) else {
         return Err(reads.no_memory());
@@ -204,50 +188,55 @@ fn read_guests<S: Store>(
 }
 
 // Reads the files of a guest of this number.
-fn read_guest<S: Store>(
+fn read_guest<'a, S: Store>(
     alloc: Global,
-    settings: &GuestSettings,
+    settings: &'a GuestSettings,
     guest: u32,
     reads: &mut Reads,
     store: &mut S,
-) -> Result<GuestFiles, LoadEnd>
+) -> Result<GuestFiles<'a>, LoadEnd>
     requires few { reads.old.made ≤ 32 }
     requires limits { IsGuestWithin settings.now }
     ensures read { HasRead S.Store (λ files. guest_steps files guest settings.now) 2
-        (λ files read. read ≡ read_for files settings.now) result
+        (λ files read. source_read read ≡ source_by files settings.now.name settings.now.origin) result
         store.old store.new reads.old.made reads.new.made }
-    ensures fitting { IfOk result (IsFitting settings.now) }
+    ensures name { IfOk result (λ read. name_read read ≡ settings.now.name) }
+    ensures fitting { IfOk result IsFitting }
 {
     match &settings.origin {
-        Origin::Fresh(fresh) => {
-            let files = read_fresh(alloc, fresh, guest, reads, store)?;
-            Ok(GuestFiles::Fresh(files))
-        }
-        Origin::Saved(name) => {
-            let saved = read_saved(alloc, name, guest, reads, store)?;
-            Ok(GuestFiles::Saved(saved))
+        Origin::Fresh(fresh) => read_fresh(alloc, &settings.name, fresh, guest, reads, store),
+        Origin::Saved(file) => {
+            let saved = read_saved(alloc, file, guest, reads, store)?;
+            Ok(GuestFiles::Saved(&settings.name, saved))
         }
     }
 }
 
-// Reads the files of a fresh guest of this number.
-fn read_fresh<S: Store>(
+// Reads the files of a fresh guest of this name and number.
+fn read_fresh<'a, S: Store>(
     alloc: Global,
-    fresh: &FreshGuest,
+    name: &'a Name,
+    fresh: &'a FreshGuest,
     guest: u32,
     reads: &mut Reads,
     store: &mut S,
-) -> Result<FreshFiles, LoadEnd>
+) -> Result<GuestFiles<'a>, LoadEnd>
     requires few { reads.old.made ≤ 32 }
     requires limits { IsFreshWithin fresh.now }
     ensures read { HasRead S.Store (λ files. fresh_steps files guest fresh.now) 2
-        (λ files read. read ≡ fresh_read files fresh.now) result
+        (λ files read. source_read read ≡ source_by files name.now (Fresh fresh.now)) result
         store.old store.new reads.old.made reads.new.made }
-    ensures fitting { IfOk result (IsFreshFitting fresh.now) }
+    ensures name { IfOk result (λ read. name_read read ≡ name.now) }
+    ensures fitting { IfOk result IsFitting }
 {
     let image = read_image(alloc, fresh, guest, reads, store)?;
     let records = read_records(alloc, &fresh.input, guest, reads, store)?;
-    Ok(FreshFiles { image, records })
+    Ok(GuestFiles::Fresh(FreshFiles {
+        name,
+        guest: fresh,
+        image,
+        records,
+    }))
 }
 
 // Reads the image of a fresh guest of this number.
@@ -352,128 +341,97 @@ fn frames_fault(frames: u64) -> Option<ConfigFault>
     }
 }
 
-// The frames of machine memory that the guests and the spare blocks of a configuration need.
-fn all_frames(config: &Config, read: &[GuestFiles]) -> u64
-    requires limits { IsWithinLimits config.now }
-    requires fitting { AreFitting config.now.guests read.now }
-    ensures frames { result ≡ frames_read config.now.guests read.now config.now.spare }
+// The frames of machine memory that guests and that many spare blocks need.
+fn all_frames(guests: &[GuestFiles<'_>], spare: u64) -> u64
+    requires few { length guests.now ≤ 16 }
+    requires fitting { All IsFitting guests.now }
+    requires spare { spare ≤ 32 }
+    ensures frames { result ≡ frames_read guests.now spare }
     ensures most { result ≤ 2 ^ 21 }
 {
-    frames_for(config.guests(), read) + BLOCK_FRAMES * config.spare()
+    frames_for(guests) + BLOCK_FRAMES * spare
 }
 
 // The frames of machine memory that guests need.
-fn frames_for(settings: &[GuestSettings], read: &[GuestFiles]) -> u64
-    requires few { length settings.now ≤ 16 }
-    requires each { All IsGuestWithin settings.now }
-    requires fitting { AreFitting settings.now read.now }
-    ensures frames { result ≡ frames_of_all (needs_of_sources (sources_with settings.now read.now)) }
+fn frames_for(guests: &[GuestFiles<'_>]) -> u64
+    requires few { length guests.now ≤ 16 }
+    requires fitting { All IsFitting guests.now }
+    ensures frames { result ≡ frames_of_all (needs_of_sources (map source_read guests.now)) }
     ensures most { result ≤ 2 ^ 20 }
 {
     let mut sum = 0;
-    for i in 0..settings.len() {
-        sum += need(&settings[i], &read[i]).frames();
+    for files in guests {
+        sum += need(files).frames();
     }
     sum
 }
 
-// What a guest of these settings needs of machine memory, with what was read for it.
-fn need(settings: &GuestSettings, read: &GuestFiles) -> Need
-    requires limits { IsGuestWithin settings.now }
-    requires fitting { IsFitting settings.now read.now }
+// What a guest needs of machine memory, with what was read for it.
+fn need(files: &GuestFiles<'_>) -> Need
+    requires { IsFitting files.now }
     ensures few { IsNeed result }
-    ensures need { result ≡ need_of_source (source_with settings.now.name settings.now.origin read.now) }
+    ensures need { result ≡ need_of_source (source_read files.now) }
 {
-    match read {
-        GuestFiles::Fresh(_) => fresh_need(&settings.origin),
-        GuestFiles::Saved(saved) => {
+    match files {
+        GuestFiles::Fresh(read) => Need {
+            blocks: read.guest.blocks,
+            spaces: read.guest.spaces,
+            entries: read.guest.entries,
+        },
+        GuestFiles::Saved(_, saved) => {
             saved.can_be_saved();
             saved.need()
         }
     }
 }
 
-// What a fresh guest needs.
-fn fresh_need(origin: &Origin) -> Need
-    ensures blocks { result.blocks ≡ (fresh_in origin.now).blocks }
-    ensures spaces { result.spaces ≡ (fresh_in origin.now).spaces }
-    ensures entries { result.entries ≡ (fresh_in origin.now).entries }
+// Where guests come from, with what was read for each.
+fn sources_made(alloc: Global, guests: Vec<GuestFiles<'_>>) -> Result<Vec<Source>, NoMemory>
+    requires fitting { All IsFitting guests.items }
+    ensures { IfOk result (λ sources. sources.items ≡ map source_read guests.entry.items) }
 {
-    match origin {
-        Origin::Fresh(fresh) => Need {
-            blocks: fresh.blocks,
-            spaces: fresh.spaces,
-            entries: fresh.entries,
-        },
-        Origin::Saved(_) => Need {
-            blocks: 0,
-            spaces: 0,
-            entries: 0,
-        },
-    }
-}
-
-// Where guests of these settings come from, with what was read for each.
-fn sources_made(
-    alloc: Global,
-    settings: &[GuestSettings],
-    read: Vec<GuestFiles>,
-) -> Result<Vec<Source>, NoMemory>
-    requires few { length settings.now ≤ 16 }
-    requires fitting { AreFitting settings.now read.items }
-    ensures { IfOk result (λ sources. sources.items ≡ sources_with settings.now read.items) }
-{
-    let mut sources = Vec::with_capacity(alloc, settings.len())?;
-    let mut i = 0;
-    for files in read {
-        sources.push(source_made(alloc, &settings[i], files)?)?;
-        i += 1;
+    let mut sources = Vec::with_capacity(alloc, guests.len())?;
+    for files in guests {
+        sources.push(source_made(alloc, files)?)?;
     }
     Ok(sources)
 }
 
-// Where a guest of these settings comes from, with what was read for it.
-fn source_made(
-    alloc: Global,
-    settings: &GuestSettings,
-    read: GuestFiles,
-) -> Result<Source, NoMemory>
-    requires { IsFitting settings.now read }
-    ensures { IfOk result (λ source. source ≡ source_with settings.now.name settings.now.origin read) }
+// Where a guest comes from, with what was read for it.
+fn source_made(alloc: Global, files: GuestFiles<'_>) -> Result<Source, NoMemory>
+    requires { IsFitting files }
+    ensures { IfOk result (λ source. source ≡ source_read files.entry) }
 {
-    let name = Name::from_vec(Vec::from_slice(alloc, settings.name.as_slice())?);
-    match read {
-        GuestFiles::Fresh(files) => fresh_made(alloc, name, &settings.origin, files),
-        GuestFiles::Saved(saved) => Ok(Source::Kept(name, saved)),
+    match files {
+        GuestFiles::Fresh(read) => Ok(Source::Fresh(fresh_made(alloc, read)?)),
+        GuestFiles::Saved(name, saved) => Ok(Source::Kept(copied(alloc, name)?, saved)),
     }
 }
 
-// The fresh guest of this name, with what was read for it.
-fn fresh_made(
-    alloc: Global,
-    name: Name,
-    origin: &Origin,
-    read: FreshFiles,
-) -> Result<Source, NoMemory>
-    requires { FitsOrigin origin.now (Fresh read) }
-    ensures { IfOk result (λ source. source ≡ source_with name origin.now (Fresh read)) }
+// A fresh guest, with what was read for it.
+fn fresh_made(alloc: Global, read: FreshFiles<'_>) -> Result<GuestSpec, NoMemory>
+    requires { IsFreshFitting read }
+    ensures { IfOk result (λ spec. spec ≡ spec_read read.entry) }
 {
-    match origin {
-        Origin::Fresh(fresh) => {
-            let inputs = inputs_made(alloc, &fresh.input, read.records.as_slice())?;
-            Ok(Source::Fresh(GuestSpec {
-                name,
-                image: read.image,
-                blocks: fresh.blocks,
-                spaces: fresh.spaces,
-                entries: fresh.entries,
-                console: fresh.console,
-                inputs: Inputs::from_vec(inputs),
-                device: fresh.device,
-            }))
-        }
-        Origin::Saved(_) => unreachable!(),
-    }
+    let name = copied(alloc, read.name)?;
+    let inputs = inputs_made(alloc, &read.guest.input, read.records.as_slice())?;
+    Ok(GuestSpec {
+        name,
+        image: read.image,
+        blocks: read.guest.blocks,
+        spaces: read.guest.spaces,
+        entries: read.guest.entries,
+        console: read.guest.console,
+        inputs: Inputs::from_vec(inputs),
+        device: read.guest.device,
+    })
+}
+
+// A name once more.
+fn copied(alloc: Global, name: &Name) -> Result<Name, NoMemory>
+    ensures { IfOk result (λ copy. copy ≡ name.now) }
+{
+    Ok(Name::from_vec(Vec::from_slice(alloc, name.as_slice())?))
 }
 
 // The inputs that come from here, where these are the bytes of the file.

@@ -3,10 +3,9 @@
 ghost use Rattle.std.specs.Prelude.{◌≤◌, ◌^◌, ◌≡◌, IfOk, OnErr};
 ghost use Rattle.command_line.specs.Commands.{command_of};
 ghost use Rattle.nesthv_top.specs.Endings.{SaysOfAccount, SaysOfCause, SaysOfErr, SaysOfMoves, SaysOfOut, SaysOfReads, SaysOfSaved};
-ghost use Rattle.nesthv_top.specs.Lines.{memory_line};
 ghost use Rattle.nesthv_top.specs.Runnings.{HasRoomForCommand};
 ghost use Rattle.nesthv_top.specs.Statuses.{IsStatusOf};
-ghost use Rattle.nesthv_top.specs.Written.{IsLinePut};
+ghost use Rattle.nesthv_top.specs.Written.{IsWordless};
 
 use crate::ends::Ended;
 use crate::lines::tell;
@@ -42,10 +41,8 @@ pub fn program<S: Store, O: Sink, E: Sink>(
         × SaysOfSaved (S.files store.old) (command_of words.items) ended)) }
 
     // Without words.
-    ensures status { OnErr words (result ≡ 5) }
-    ensures line { OnErr words (IsLinePut E.Sink err.old err.new memory_line) }
-    ensures store { OnErr words (store.new ≡ store.old) }
-    ensures out { OnErr words (out.new ≡ out.old) }
+    ensures wordless { OnErr words
+        (IsWordless E.Sink result store.old store.new out.old out.new err.old err.new) }
     ensures account { OnErr words (tally.new ≡ tally.old) }
     ensures moves { OnErr words (moves.new ≡ moves.old) }
 {

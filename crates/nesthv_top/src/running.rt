@@ -4,17 +4,15 @@ ghost use Rattle.std.specs.Prelude.{◌≡◌, ℕ, ◌+◌, ◌%◌, ◌^◌, �
 ghost use Rattle.std.specs.List.{All};
 ghost use Rattle.outside.specs.Faults.{Rose};
 ghost use Rattle.outside.specs.Pieces.{Puts};
-ghost use Rattle.arch_defs.specs.Frames.{most_frames};
 ghost use Rattle.guest_turns.specs.Hosted.{count_set, is_set, lowest, part_at, KeepsShares};
-ghost use Rattle.frame_split.specs.Shares.{frames_with};
 ghost use Rattle.guest_save.specs.Forms.{form};
 ghost use Rattle.guest_turns.specs.Moves.{HasMoved};
-ghost use Rattle.guest_turns.specs.Sources.{AreBootableSources, machines_of_sources, needs_of_sources};
 ghost use Rattle.guest_turns.specs.TurnLists.{with_turns};
 ghost use Rattle.run_config.specs.Configurations.{IsGuestWithin, IsTurnWithin};
 ghost use Rattle.nesthv_top.specs.Plans.{AllRunAsWritten, IsResumable, machine_after, report_of};
-ghost use Rattle.nesthv_top.specs.Moving.{kept_turn, own_turns, retires, retires_by, shares_of, with_moves, HasMovedBy};
-ghost use Rattle.nesthv_top.specs.Runnings.{hosted_as, moves_by, sections_of, CanMove, CountsTurns, CountsTurnsOf, HasRoomForCommand, HaveBlocks, IsAccountOf, IsMovedBy, IsReady};
+ghost use Rattle.nesthv_top.specs.Moving.{kept_turn, own_turns, retires, shares_of, with_moves};
+ghost use Rattle.nesthv_top.specs.Runnings.{hosted_as, sections_of, CanMove, CountsTurnsOf, HasRoomForCommand, HaveBlocks, IsAccountOf, IsMovedBy, IsReady};
+ghost use Rattle.nesthv_top.specs.HostedRuns.{CanRun, HasCounted, HasRunPlan};
 ghost use Rattle.nesthv_top.specs.Seen.{names_in, plan_seen, plan_with, IsJob};
 ghost use Rattle.nesthv_top.specs.Written.{Writes};
 ghost use Rattle.outside.specs.Texts.{PutsText};
@@ -115,26 +113,13 @@ pub fn hosted(
     tally: &mut Tally,
     moves: &mut Moves,
 ) -> Result<Host, NoMemory>
-    requires sources { AreBootableSources sources.items }
-    requires spare { spare ≤ 32 }
-    requires frames { frames_with (needs_of_sources sources.items) spare ≤ most_frames }
-    requires few { length turns.now ≤ 2 ^ 20 }
-    requires short { All (IsTurnWithin (length sources.items)) turns.now }
-    requires kept { IfSome kept (λ g. g < length sources.items) }
+    requires plan { CanRun (plan_with sources.items turns.now spare) kept }
     requires room { HasRoomForCommand tally.old }
     requires moves { moves.old ≤ 2 ^ 61 }
 
-    ensures machines { IfOk result (λ host. host.machines
-        ≡ hosted_as host.retired (with_turns turns.now (machines_of_sources sources.items))) }
-    ensures active { spare ≡ 0 → IfOk result (λ host. (g : ℕ) → is_set host.retired g ≡ false) }
-    ensures kept { IfOk result (λ host. IfSome kept (λ g. is_set host.retired g ≡ false)) }
-    ensures retired { IfOk result (λ host. (g : ℕ) → g < length sources.items
-        → is_set host.retired g ≡ retires_by spare kept turns.now g) }
-    ensures shares { IfOk result (HasMovedBy (needs_of_sources sources.items) spare kept turns.now) }
-    ensures account { OnOk result
-        (CountsTurns (plan_with sources.items turns.now spare) tally.old tally.new) }
-    ensures moved { OnOk result (moves.new ≡ moves.old + moves_by spare turns.now) }
-    ensures idle { OnErr result ((tally.new ≡ tally.old) × (moves.new ≡ moves.old)) }
+    ensures ran { IfOk result (HasRunPlan (plan_with sources.items turns.now spare) kept) }
+    ensures counted { HasCounted (plan_with sources.items turns.now spare) result
+        tally.old tally.new moves.old moves.new }
     ensures written { AllRunAsWritten (plan_with sources.items turns.now spare) }
 {
     fills_suffice();

@@ -1,8 +1,8 @@
-use Rattle.std.proofs.Common.{rules, List, ◌≡◌, ◌∙◌, [], ◌∷◌, Err, refl, arith}
-use Rattle.outside.specs.Files.{Files}
-use Rattle.nesthv_top.specs.Loads.{fresh_read}
+use Rattle.std.proofs.Common.{rules, ◌≡◌, ◌∙◌, [], ◌∷◌, Err, refl, arith}
+use Rattle.run_config.specs.declared.guests.Origin.TheVariants.{Fresh}
+use Rattle.nesthv_top.specs.Contents.{source_by}
+use Rattle.nesthv_top.specs.Loads.{source_read}
 use Rattle.nesthv_top.specs.Reads.{fresh_steps, image_step, input_steps}
-use Rattle.nesthv_top.specs.Steps.{Step}
 use Rattle.nesthv_top.proofs.Readings.{read_first, read_passed, read_stopped}
 use Rattle.nesthv_top.proofs.loading.read_fresh.Goals as goal
 
@@ -25,5 +25,5 @@ returns-clause-read g c =
     let fresh = c.args.fresh.now in
     let image = c.in_ok-image.ensures.read in
     let records = c.in_ok-records.ensures.read in
-    read_passed g.S.Store (λ f. image_step f c.args.guest fresh ∷ []) (λ f. input_steps f c.args.guest fresh.input) (λ f. fresh_steps f c.args.guest fresh) 1 1 2 _ _ (λ f read. read ≡ fresh_read f fresh)
+    read_passed g.S.Store (λ f. image_step f c.args.guest fresh ∷ []) (λ f. input_steps f c.args.guest fresh.input) (λ f. fresh_steps f c.args.guest fresh) 1 1 2 _ _ (λ f read. source_read read ≡ source_by f c.args.name.now (Fresh fresh))
     c.in_ok-image.image c.in_ok-records.records _ _ _ _ _ _ _ (omega arith) (λ f told. refl) (λ f told. rw (image.says f told, records.says f (image.leaves.files ∙ told)) refl) image records

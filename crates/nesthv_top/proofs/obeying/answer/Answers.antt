@@ -12,13 +12,13 @@ use Rattle.nesthv_top.proofs.obeying.answer.Goals as goal
 pub returns-in-Ok-Same-clause-account : goal.returns-in-Ok-Same-clause-account
 returns-in-Ok-Same-clause-account g c =
     counted (g.S.Store.files c.args.store.now) (file_command_seen c.args.request) c.in-Ok.loaded.job c.in-Ok-Same.field-0 c.args.tally.now c.perform.new.tally
-    c.in-Ok.ensures.planned c.in-Ok.ensures.job c.in-Ok-Same.ensures.account
+    c.in-Ok.ensures.loaded.plan c.in-Ok.ensures.loaded.job c.in-Ok-Same.ensures.account
 
 pub returns-in-Ok-Differs-clause-account : goal.returns-in-Ok-Differs-clause-account
 returns-in-Ok-Differs-clause-account g c =
     counted_differing (g.S.Store.files c.args.store.now) (OnFiles (file_command_seen c.args.request)) c.args.tally.now c.perform.new.tally
     (counted (g.S.Store.files c.args.store.now) (file_command_seen c.args.request) c.in-Ok.loaded.job c.in-Ok-Differs.field-0 c.args.tally.now c.perform.new.tally
-    c.in-Ok.ensures.planned c.in-Ok.ensures.job c.in-Ok-Differs.ensures.account)
+    c.in-Ok.ensures.loaded.plan c.in-Ok.ensures.loaded.job c.in-Ok-Differs.ensures.account)
 
 pub returns-in-Ok-Differs-clause-command : goal.returns-in-Ok-Differs-clause-command
 returns-in-Ok-Differs-clause-command g c =
@@ -28,9 +28,9 @@ returns-in-Ok-Differs-clause-command g c =
 pub returns-in-Err-WriteFault-clause-account : goal.returns-in-Err-WriteFault-clause-account
 returns-in-Err-WriteFault-clause-account g c =
     counted_in_part (g.S.Store.files c.args.store.now) (file_command_seen c.args.request) c.in-Ok.loaded.job Same c.args.tally.now c.perform.new.tally
-    c.in-Ok.ensures.planned c.in-Ok.ensures.job (rw c.in-Err-WriteFault.field-0-is at c.in-Err-WriteFault.ensures.account)
+    c.in-Ok.ensures.loaded.plan c.in-Ok.ensures.loaded.job (rw c.in-Err-WriteFault.field-0-is at c.in-Err-WriteFault.ensures.account)
 
 pub returns-clause-reads : goal.returns-clause-reads
 returns-clause-reads g c =
     let is : c.from-in-Err-NoMemory.result ≡ NoMemory c.load.new.reads.made = search rules in
-    rw is (wanting_says g.S.Store (file_command_seen c.args.request) c.load.new.reads.made c.args.store.now c.load.new.store c.in-Ok.ensures.some c.in-Ok.ensures.passed c.in-Ok.ensures.answered c.in-Ok.ensures.reads)
+    rw is (wanting_says g.S.Store (file_command_seen c.args.request) c.load.new.reads.made c.args.store.now c.load.new.store c.in-Ok.ensures.passed c.in-Ok.ensures.reads)

@@ -1,11 +1,11 @@
-use Rattle.std.proofs.Common.{◌≡◌, ◌∙◌, ◌<◌, length, get_or, ap, sym, arith}
+use Rattle.std.proofs.Common.{◌≡◌, ◌∙◌, ◌+◌, ◌<◌, length, get_or, ap, sym, arith}
 use Rattle.std.proofs.lemmas.List.{get_or-map, length-map}
 use Rattle.arch_defs.specs.Layouts.{no_part}
 use Rattle.guest_turns.specs.Sources.{machine_of_source, machines_of_sources, need_of_source, needs_of_sources}
 use Rattle.guest_turns.specs.TurnLists.{with_turns}
 use Rattle.nesthv_top.specs.Moving.{shares_of, AreBooted}
 use Rattle.nesthv_top.specs.Runnings.{hosted_as}
-use Rattle.nesthv_top.proofs.MovedShares.{each_moved, each_retires, kept_shares, none_moved, none_retires}
+use Rattle.nesthv_top.proofs.MovedShares.{each_moved, each_moves, each_retires, kept_shares, none_moved, none_retires}
 use Rattle.nesthv_top.proofs.Reporting.{counted}
 use Rattle.nesthv_top.proofs.RetiredMachines.{all_active, none_retired}
 use Rattle.nesthv_top.proofs.SourceMachines.{needs_block, no_source, run_as_written}
@@ -23,7 +23,7 @@ returns-in_err-host-clause-written c =
       goes_on = c.saved_machines_go_on.ensures.goes_on;
       since = c.saved_machines_go_on.ensures.fresh;
       first_since = c.saved_machines_go_on.ensures.first;
-    }) c.requires.sources.each
+    }) c.requires.plan.sources.each
 
 pub run_moving-requires-clause-movable : goal.run_moving-requires-clause-movable
 run_moving-requires-clause-movable c =
@@ -36,28 +36,12 @@ run_moving-requires-clause-movable c =
             let there : g < length c.args.sources.items = omega (arith, inside, machines) in
             let guest = get_or c.args.sources.items g no_source in
             let meets = parts.meet g (need_of_source no_source) no_part (rw (length-map c.args.sources.items need_of_source) there) in
-            omega (arith, meets.blocks, ap (λ need. need.blocks) (get_or-map need_of_source c.args.sources.items g no_source (need_of_source no_source) there), needs_block guest (c.requires.sources.each g no_source there));
+            omega (arith, meets.blocks, ap (λ need. need.blocks) (get_or-map need_of_source c.args.sources.items g no_source (need_of_source no_source) there), needs_block guest (c.requires.plan.sources.each g no_source there));
       };
       free = omega (arith, c.in_ok-host.ensures.count, c.if-spare-eq0.false);
-      guests = omega (arith, machines, c.requires.sources.few);
+      guests = omega (arith, machines, c.requires.plan.sources.few);
       flags = c.in_ok-host.ensures.flags;
     }
-
-pub returns-clause-machines : goal.returns-clause-machines
-returns-clause-machines c = elim c.if-spare-eq0.branch [
-  | then-spare-eq0 w ↦ rw w.host-is (w.run_turns.ensures.machines ∙ ap (with_turns c.args.turns.now) c.in_ok-host.ensures.machines
-      ∙ sym (none_retired w.run_turns.new.host.retired (with_turns c.args.turns.now (machines_of_sources c.args.sources.items)) w.run_turns.ensures.active))
-  | else-spare-eq0 w ↦ rw w.host-is (w.run_moving.ensures.machines
-      ∙ ap (λ first. hosted_as w.run_moving.new.host.retired (with_turns c.args.turns.now first)) c.in_ok-host.ensures.machines)
-]
-
-pub returns-clause-account : goal.returns-clause-account
-returns-clause-account c = elim c.if-spare-eq0.branch [
-  | then-spare-eq0 w ↦ rw w.tally-is
-      (counted c.args.sources.items c.args.turns.now c.args.spare c.in_ok-host.host.machines c.args.tally.now w.run_turns.new.tally c.in_ok-host.ensures.machines w.run_turns.ensures.account)
-  | else-spare-eq0 w ↦ rw w.tally-is
-      (counted c.args.sources.items c.args.turns.now c.args.spare c.in_ok-host.host.machines c.args.tally.now w.run_moving.new.tally c.in_ok-host.ensures.machines w.run_moving.ensures.account)
-]
 
 pub returns-clause-written : goal.returns-clause-written
 returns-clause-written c =
@@ -70,38 +54,54 @@ returns-clause-written c =
       goes_on = c.saved_machines_go_on.ensures.goes_on;
       since = c.saved_machines_go_on.ensures.fresh;
       first_since = c.saved_machines_go_on.ensures.first;
-    }) c.requires.sources.each
+    }) c.requires.plan.sources.each
 
-pub returns-clause-kept : goal.returns-clause-kept
-returns-clause-kept c = elim c.if-spare-eq0.branch [
-  | then-spare-eq0 w ↦ rw w.host-is (all_active c.args.kept w.run_turns.new.host.retired w.run_turns.ensures.active)
-  | else-spare-eq0 w ↦ rw w.host-is w.run_moving.ensures.kept
-]
-
-pub returns-clause-shares : goal.returns-clause-shares
-returns-clause-shares c =
+pub returns-clause-ran : goal.returns-clause-ran
+returns-clause-ran c =
+    let sources = c.args.sources.items in
+    let turns = c.args.turns.now in
     let booted = c.in_ok-host.ensures in
-    let are : AreBooted (needs_of_sources c.args.sources.items) c.args.spare (shares_of c.in_ok-host.host) = record { parts = booted.parts; free = booted.free; active = booted.active } in
+    let first = machines_of_sources sources in
+    let count : length c.in_ok-host.host.machines ≡ length sources = ap length booted.machines ∙ length-map sources machine_of_source in
+    let are : AreBooted (needs_of_sources sources) c.args.spare (shares_of c.in_ok-host.host) = record { parts = booted.parts; free = booted.free; active = booted.active } in
     elim c.if-spare-eq0.branch [
-      | then-spare-eq0 w ↦ rw w.host-is (
-        shares_of c.in_ok-host.host,
-        are,
-        kept_shares c.in_ok-host.host w.run_turns.new.host w.run_turns.ensures.shares
-            ∙ sym (none_moved c.args.spare c.args.kept c.args.turns.now (shares_of c.in_ok-host.host) w.if-spare-eq0.true),
-      )
-      | else-spare-eq0 w ↦ rw w.host-is (
-        shares_of c.in_ok-host.host,
-        are,
-        w.run_moving.ensures.shares
-            ∙ sym (each_moved c.args.spare c.args.kept c.args.turns.now (shares_of c.in_ok-host.host) w.if-spare-eq0.false),
-      )
+      | then-spare-eq0 w ↦
+          let run = w.run_turns.ensures in
+          rw w.host-is (record {
+            machines = run.machines ∙ ap (with_turns turns) booted.machines ∙ sym (none_retired w.run_turns.new.host.retired (with_turns turns first) run.active);
+            active = λ none. run.active;
+            retired = λ g inside. run.active g ∙ sym (none_retires c.args.spare c.args.kept turns g w.if-spare-eq0.true);
+            shares = (
+              shares_of c.in_ok-host.host,
+              are,
+              kept_shares c.in_ok-host.host w.run_turns.new.host run.shares ∙ sym (none_moved c.args.spare c.args.kept turns (shares_of c.in_ok-host.host) w.if-spare-eq0.true),
+            );
+            there = all_active c.args.kept w.run_turns.new.host.retired run.active;
+          })
+      | else-spare-eq0 w ↦
+          let run = w.run_moving.ensures in
+          rw w.host-is (record {
+            machines = run.machines ∙ ap (λ first. hosted_as w.run_moving.new.host.retired (with_turns turns first)) booted.machines;
+            active = λ none. absurd (w.if-spare-eq0.false none);
+            retired = λ g inside. run.retired g (omega (arith, inside, count)) ∙ sym (each_retires c.args.spare c.args.kept turns g w.if-spare-eq0.false);
+            shares = (shares_of c.in_ok-host.host, are, run.shares ∙ sym (each_moved c.args.spare c.args.kept turns (shares_of c.in_ok-host.host) w.if-spare-eq0.false));
+            there = run.kept;
+          })
     ]
 
-pub returns-clause-retired : goal.returns-clause-retired
-returns-clause-retired c = λ g inside.
-    let machines : length c.in_ok-host.host.machines ≡ length c.args.sources.items = ap length c.in_ok-host.ensures.machines ∙ length-map c.args.sources.items machine_of_source in
+pub returns-clause-counted : goal.returns-clause-counted
+returns-clause-counted c =
+    let sources = c.args.sources.items in
+    let turns = c.args.turns.now in
     elim c.if-spare-eq0.branch [
-      | then-spare-eq0 w ↦ rw w.host-is (w.run_turns.ensures.active g ∙ sym (none_retires c.args.spare c.args.kept c.args.turns.now g w.if-spare-eq0.true))
-      | else-spare-eq0 w ↦ rw w.host-is (w.run_moving.ensures.retired g (omega (arith, inside, machines))
-          ∙ sym (each_retires c.args.spare c.args.kept c.args.turns.now g w.if-spare-eq0.false))
+      | then-spare-eq0 w ↦ rw (w.tally-is, w.moves-is) (record {
+        account = counted sources turns c.args.spare c.in_ok-host.host.machines c.args.tally.now w.run_turns.new.tally c.in_ok-host.ensures.machines w.run_turns.ensures.account;
+        moved = rw w.if-spare-eq0.true (omega arith);
+        idle = tt;
+      })
+      | else-spare-eq0 w ↦ rw (w.tally-is, w.moves-is) (record {
+        account = counted sources turns c.args.spare c.in_ok-host.host.machines c.args.tally.now w.run_moving.new.tally c.in_ok-host.ensures.machines w.run_moving.ensures.account;
+        moved = w.run_moving.ensures.moved ∙ ap (λ n. c.args.moves.now + n) (sym (each_moves c.args.spare turns w.if-spare-eq0.false));
+        idle = tt;
+      })
     ]

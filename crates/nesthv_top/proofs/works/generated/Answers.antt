@@ -1,20 +1,18 @@
-use Rattle.std.proofs.Common.{◌≡◌, length, map, ◌∙◌, refl, ap, sym, subst, arith}
+use Rattle.std.proofs.Common.{◌≡◌, length, map, ◌∙◌, refl, ap, subst}
 use Rattle.std.proofs.lemmas.List.{length-map}
-use Rattle.std.specs.List.{All}
 use Rattle.guest_turns.specs.declared.sources.Source.TheVariants.{Fresh}
-use Rattle.guest_turns.specs.Sources.{AreBootableSources, machine_of_source, machines_of_sources, needs_of_sources}
+use Rattle.guest_turns.specs.Sources.{machine_of_source, machines_of_sources}
 use Rattle.guest_turns.specs.TurnLists.{with_turns}
-use Rattle.guest_turns.proofs.Savables.{fresh_machines, fresh_needs}
+use Rattle.guest_turns.proofs.Savables.{fresh_machines}
 use Rattle.guest_turns.proofs.TurnLists.{turns_keep_count}
 use Rattle.machine_defs.specs.Machine.{start}
-use Rattle.run_config.specs.Configurations.{IsTurnWithin}
 use Rattle.turn_plan.specs.Turns.{rounds_of}
 use Rattle.work_images.specs.Guests.{guests}
 use Rattle.nesthv_top.specs.Runnings.{CountsTurns}
 use Rattle.nesthv_top.specs.Seen.{plan_with}
 use Rattle.nesthv_top.proofs.RetiredMachines.{as_many_hosted, none_retired}
 use Rattle.nesthv_top.proofs.SourceMachines.{run_as_written}
-use Rattle.nesthv_top.proofs.Working.{are_bootable, are_sources, few_turns, four_guests, sources_bootable, text_is, turns_within}
+use Rattle.nesthv_top.proofs.Working.{four_guests, sources_bootable, text_is, work_runs}
 use Rattle.nesthv_top.proofs.works.generated.Goals as goal
 
 pub returns-in_err-guests-clause-written : goal.returns-in_err-guests-clause-written
@@ -56,29 +54,16 @@ returns-in_err-sources-clause-written c =
       first_since = c.saved_machines_go_on.ensures.first;
     }) (sources_bootable c.args.seed c.args.size c.requires.most)
 
-pub hosted-requires-clause-sources : goal.hosted-requires-clause-sources
-hosted-requires-clause-sources c = subst AreBootableSources (sym (c.in_ok-sources.ensures ∙ ap (map Fresh) c.in_ok-guests.ensures)) (are_sources c.args.seed c.args.size c.requires.most)
-
-pub hosted-requires-clause-few : goal.hosted-requires-clause-few
-hosted-requires-clause-few c = rw (c.as_slice.ensures, c.in_ok-turns.ensures) (few_turns c.args.size c.requires.most)
-
-pub hosted-requires-clause-short : goal.hosted-requires-clause-short
-hosted-requires-clause-short c =
-    let count : length c.in_ok-sources.sources.items ≡ 4 =
-    ap length c.in_ok-sources.ensures ∙ length-map c.in_ok-guests.guests.items Fresh ∙ ap length c.in_ok-guests.ensures ∙ four_guests c.args.seed c.args.size in
-    subst (λ n. All (IsTurnWithin n) c.as_slice.result.now) (sym count)
-    (subst (All (IsTurnWithin 4)) (sym (c.as_slice.ensures ∙ c.in_ok-turns.ensures)) (turns_within c.args.size))
-
-pub hosted-requires-clause-frames : goal.hosted-requires-clause-frames
-hosted-requires-clause-frames c =
-    let frames = (are_bootable c.args.seed c.args.size c.requires.most).frames in
-    let needs = ap needs_of_sources (c.in_ok-sources.ensures ∙ ap (map Fresh) c.in_ok-guests.ensures) ∙ fresh_needs (guests c.args.seed c.args.size) in
-    rw needs (omega (arith, frames))
+pub hosted-requires-clause-plan : goal.hosted-requires-clause-plan
+hosted-requires-clause-plan c =
+    let sources = c.in_ok-sources.ensures ∙ ap (map Fresh) c.in_ok-guests.ensures in
+    let turns = c.as_slice.ensures ∙ c.in_ok-turns.ensures in
+    rw (sources, turns) (work_runs c.args.seed c.args.size c.requires.most)
 
 pub returns-clause-count : goal.returns-clause-count
 returns-clause-count c =
     let first = machines_of_sources c.in_ok-sources.sources.items in
-    ap length c.in_ok-host.ensures.machines ∙ as_many_hosted c.in_ok-host.host.retired (with_turns c.as_slice.result.now first) ∙ turns_keep_count c.as_slice.result.now first
+    ap length c.in_ok-host.ensures.ran.machines ∙ as_many_hosted c.in_ok-host.host.retired (with_turns c.as_slice.result.now first) ∙ turns_keep_count c.as_slice.result.now first
     ∙ length-map c.in_ok-sources.sources.items machine_of_source ∙ ap length c.in_ok-sources.ensures ∙ length-map c.in_ok-guests.guests.items Fresh
     ∙ ap length c.in_ok-guests.ensures ∙ four_guests c.args.seed c.args.size
 
@@ -87,8 +72,8 @@ returns-clause-lines c =
     let first = machines_of_sources c.in_ok-sources.sources.items in
     let machines : first ≡ map start (guests c.args.seed c.args.size) =
     ap machines_of_sources (c.in_ok-sources.ensures ∙ ap (map Fresh) c.in_ok-guests.ensures) ∙ fresh_machines (guests c.args.seed c.args.size) in
-    text_is c.args.seed c.args.size c.in_ok-host.host.machines (c.in_ok-host.ensures.machines
-    ∙ none_retired c.in_ok-host.host.retired (with_turns c.as_slice.result.now first) (c.in_ok-host.ensures.active refl)
+    text_is c.args.seed c.args.size c.in_ok-host.host.machines (c.in_ok-host.ensures.ran.machines
+    ∙ none_retired c.in_ok-host.host.retired (with_turns c.as_slice.result.now first) (c.in_ok-host.ensures.ran.active refl)
     ∙ ap (λ turns. with_turns turns first) (c.as_slice.ensures ∙ c.in_ok-turns.ensures)
     ∙ ap (with_turns (rounds_of 4 1000 c.args.size)) machines)
 
@@ -97,4 +82,4 @@ returns-clause-account c =
     subst (λ sources. CountsTurns (plan_with sources (rounds_of 4 1000 c.args.size) 0) c.args.tally.now c.hosted.new.tally)
     (c.in_ok-sources.ensures ∙ ap (map Fresh) c.in_ok-guests.ensures)
     (subst (λ turns. CountsTurns (plan_with c.in_ok-sources.sources.items turns 0) c.args.tally.now c.hosted.new.tally) (c.as_slice.ensures ∙ c.in_ok-turns.ensures)
-    c.in_ok-host.ensures.account)
+    c.in_ok-host.ensures.counted.account)
