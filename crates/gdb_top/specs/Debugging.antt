@@ -4,7 +4,9 @@ use Rattle.command_line.specs.Commands.{Command, OnFiles, Save}
 use Rattle.gdb_stub.specs.Sessions.{Recording}
 use Rattle.gdb_stub.specs.declared.talks.TalkEnd.{TalkEnd}
 use Rattle.gdb_stub.specs.Talks.{at_begin, HasTalked}
+use Rattle.guest_commands.specs.declared.lone_guests.LoneGuest.{LoneGuest}
 use Rattle.guest_turns.specs.Hosted.{machine_at}
+use Rattle.guest_turns.specs.Sources.{machine_of_source}
 use Rattle.guest_turns.specs.TurnLists.{own_steps}
 use Rattle.nesthv_top.specs.Plans.{Plan, machines_of}
 use Rattle.outside.specs.declared.connections.Connection as connections
@@ -14,6 +16,14 @@ abbrev pub recording_for : Plan → ℕ → List ℕ → Recording
 recording_for plan guest description = record {
   begin = machine_at (machines_of plan) guest;
   last = own_steps guest plan.turns;
+  description = description;
+}
+
+-- that of a guest without the others
+abbrev pub recording_by : LoneGuest → List ℕ → Recording
+recording_by guest description = record {
+  begin = machine_of_source guest.source;
+  last = guest.steps;
   description = description;
 }
 

@@ -1,15 +1,15 @@
 -- What the end of debugging says.
-use Rattle.std.specs.Prelude.{◌≡◌, ◌≤◌, ◌⊎◌, ℕ, zero, suc, List, Option, Some, None, length, codes}
+use Rattle.std.specs.Prelude.{◌≡◌, ◌≤◌, ℕ, zero, suc, List, Option, Some, None, codes}
 use Rattle.command_line.specs.Commands.{Command}
 use Rattle.gdb_stub.specs.declared.talks.TalkEnd.TheVariants as talk_end
 use Rattle.outside.specs.declared.connections.Connection as connections
 use Rattle.outside.specs.declared.stores.Store as stores
 use Rattle.outside.specs.Faults.{Rose}
 use Rattle.outside.specs.Files.{Files}
+use Rattle.guest_commands.specs.Ends.{IsCut}
 use Rattle.nesthv_top.specs.declared.ends.Ended.{Ended}
 use Rattle.nesthv_top.specs.declared.ends.Ended.TheVariants.{Done, ReadFault, WriteFault, NoMemory}
-use Rattle.nesthv_top.specs.Endings.{HasPlan, IfKnown, IfReadFault, IfWriteFault, WithPlan}
-use Rattle.nesthv_top.specs.Reads.{asks_of}
+use Rattle.nesthv_top.specs.Endings.{HasPlan, IfReadFault, IfWriteFault}
 use Rattle.gdb_top.specs.Debugging.{TalksAbout}
 
 abbrev pub debugger_usage : List ℕ
@@ -34,14 +34,11 @@ pub record SaysOfCauses {X C : Type 0} (S : stores.Ghosts X) (K : connections.Gh
   pub read_count : K.read_faults connection ≤ K.read_faults connection'
   pub write_count : K.write_faults connection ≤ K.write_faults connection'
 
--- the talk where it was out of memory after that many reads: none had begun, or all files had been read
+-- the talk where it was out of memory after that many reads
 abbrev pub IsCutTalk : {C : Type 0} → connections.Ghosts C → Option Files → Option Command → List ℕ → ℕ
     → C → C → Type 0
-IsCutTalk K told command description zero old new = new ≡ old
-IsCutTalk K told command description (suc n) old new = (new ≡ old)
-    ⊎ IfKnown told command (λ files. (suc n ≡ length (asks_of files command))
-    × WithPlan files command (λ command plan.
-    TalksAbout K plan command description (Some talk_end.NoMemory) old new))
+IsCutTalk K told command description n old new = IsCut told command n (new ≡ old)
+    (λ command plan. TalksAbout K plan command description (Some talk_end.NoMemory) old new)
 
 -- the talk at each end; nothing is transferred where none began
 abbrev pub SaysOfTalk : {C : Type 0} → connections.Ghosts C → Option Files → Option Command → List ℕ → Ended

@@ -1,24 +1,21 @@
 // The debugger from its words to its status.
 
-ghost use Rattle.std.specs.Prelude.{◌≡◌, ◌⊎◌, None, Some, IfOk, IsSome, OnErr};
+ghost use Rattle.std.specs.Prelude.{◌≡◌, ◌⊎◌, None, Some, IfOk, OnErr};
 ghost use Rattle.command_line.specs.Commands.{OnFiles};
-ghost use Rattle.command_line.specs.Seen.{file_command_seen};
 ghost use Rattle.guest_commands.specs.EndLines.{SaysOfLine};
-ghost use Rattle.guest_commands.specs.GuestWords.{IsSave, saving_command, saving_words};
+ghost use Rattle.guest_commands.specs.Ends.{ComesFor};
+ghost use Rattle.guest_commands.specs.GuestWords.{guest_command, saving_command, saving_words};
 ghost use Rattle.outside.specs.Faults.{Rose};
-ghost use Rattle.nesthv_top.specs.Endings.{HasPlan, IfKnown, IsEndFor, IsOfCommand, IsRefusal, SaysOfReads};
-ghost use Rattle.nesthv_top.specs.Lines.{memory_line};
-ghost use Rattle.nesthv_top.specs.Plans.{plan_of};
-ghost use Rattle.nesthv_top.specs.Statuses.{IsNoCommand, IsStatusOf};
-ghost use Rattle.nesthv_top.specs.Written.{IsLinePut};
+ghost use Rattle.nesthv_top.specs.Endings.{HasPlan, IsEndFor, IsOfCommand, SaysOfReads};
+ghost use Rattle.nesthv_top.specs.Statuses.{IsStatusOf};
+ghost use Rattle.nesthv_top.specs.Written.{IsWordless};
 ghost use Rattle.gdb_top.specs.Debugging.{TalksAbout};
 ghost use Rattle.gdb_top.specs.Endings.{files_end, debugger_usage, SaysOfCauses, SaysOfTalk};
 
 use crate::guests::talk_about;
-use command_line::{FileRequest, Request, request_of};
 use gdb_stub::TalkEnd;
-use guest_commands::{are_plain, saving_words, say};
-use nesthv_top::{Ended, Loaded, Reads, load, status_of};
+use guest_commands::{GuestRequest, finish, guest_request, load_guest};
+use nesthv_top::{Ended, Reads};
 use no_memory::NoMemory;
 use outside::{Connection, Sink, Store, Word};
 use std::alloc::Global;
@@ -42,21 +39,11 @@ pub fn debug<S: Store, C: Connection, E: Sink>(
         → HasPlan (S.files store.old) (saving_command words.items) (λ files command plan.
         TalksAbout C.Connection plan command description.now None connection.old connection.new)) }
 
-    // When each status comes. 5 is out of memory, which is free.
-    ensures no_command { IfOk words (λ words. IsNoCommand (saving_words words.items) result) }
-    ensures refused { IfOk words (λ words.
-        IsRefusal (S.files store.old) (saving_command words.items) result) }
-    ensures read_fault { result ≡ 3 → Rose (S.faults store.old) (S.faults store.new)
-        ⊎ Rose (C.read_faults connection.old) (C.read_faults connection.new) }
-    ensures write_fault { result ≡ 4
-        → Rose (C.write_faults connection.old) (C.write_faults connection.new) }
-    ensures complete { IfOk words (λ words.
-        IfKnown (S.files store.old) (saving_command words.items) (λ files.
-        IsSome (plan_of files (saving_command words.items))
-        → ¬ Rose (S.faults store.old) (S.faults store.new)
-        → ¬ Rose (C.read_faults connection.old) (C.read_faults connection.new)
-        → ¬ Rose (C.write_faults connection.old) (C.write_faults connection.new)
-        → (result ≡ 0) ⊎ (result ≡ 5))) }
+    // When each status comes.
+    ensures comes { IfOk words (λ words. ComesFor (S.files store.old) (saving_words words.items)
+        (Rose (S.faults store.old) (S.faults store.new)
+        ⊎ Rose (C.read_faults connection.old) (C.read_faults connection.new))
+        (Rose (C.write_faults connection.old) (C.write_faults connection.new)) result) }
 
     // What it leaves, by the end that the status stands for.
     ensures ended { IfOk words (λ words. IsStatusOf result (λ ended.
@@ -68,117 +55,89 @@ pub fn debug<S: Store, C: Connection, E: Sink>(
         × SaysOfLine E.Sink debugger_usage ended err.old err.new)) }
 
     // Without words.
-    ensures status { OnErr words (result ≡ 5) }
-    ensures line { OnErr words (IsLinePut E.Sink err.old err.new memory_line) }
-    ensures store { OnErr words (store.new ≡ store.old) }
-    ensures connection { OnErr words (connection.new ≡ connection.old) }
+    ensures wordless { OnErr words
+        (IsWordless E.Sink result store.old store.new connection.old connection.new err.old err.new) }
 {
     match words {
-        Ok(words) => debug_words(alloc, words, description, store, connection, err),
-        Err(NoMemory) => {
-            say(Ended::NoMemory(0), USAGE, err);
-            status_of(Ended::NoMemory(0))
-        }
+        Ok(words) => debug_words(alloc, words.as_slice(), description, store, connection, err),
+        Err(NoMemory) => finish(Ended::NoMemory(0), USAGE, err),
     }
 }
 
 // The same with words.
 fn debug_words<S: Store, C: Connection, E: Sink>(
     alloc: Global,
-    words: Vec<Word>,
+    words: &[Word],
     description: &[u8],
     store: &mut S,
     connection: &mut C,
     err: &mut E,
 ) -> u8
     ensures talk { result ≡ 0
-        → HasPlan (S.files store.old) (saving_command words.items) (λ files command plan.
+        → HasPlan (S.files store.old) (saving_command words.now) (λ files command plan.
         TalksAbout C.Connection plan command description.now None connection.old connection.new) }
-    ensures no_command { IsNoCommand (saving_words words.items) result }
-    ensures refused { IsRefusal (S.files store.old) (saving_command words.items) result }
-    ensures read_fault { result ≡ 3 → Rose (S.faults store.old) (S.faults store.new)
-        ⊎ Rose (C.read_faults connection.old) (C.read_faults connection.new) }
-    ensures write_fault { result ≡ 4
-        → Rose (C.write_faults connection.old) (C.write_faults connection.new) }
-    ensures complete { IfKnown (S.files store.old) (saving_command words.items) (λ files.
-        IsSome (plan_of files (saving_command words.items))
-        → ¬ Rose (S.faults store.old) (S.faults store.new)
-        → ¬ Rose (C.read_faults connection.old) (C.read_faults connection.new)
-        → ¬ Rose (C.write_faults connection.old) (C.write_faults connection.new)
-        → (result ≡ 0) ⊎ (result ≡ 5)) }
+    ensures comes { ComesFor (S.files store.old) (saving_words words.now)
+        (Rose (S.faults store.old) (S.faults store.new)
+        ⊎ Rose (C.read_faults connection.old) (C.read_faults connection.new))
+        (Rose (C.write_faults connection.old) (C.write_faults connection.new)) result }
     ensures ended { IsStatusOf result (λ ended.
-        IsEndFor ended (saving_words words.items)
-        × SaysOfReads S.Store (saving_command words.items) (files_end ended) store.old store.new
+        IsEndFor ended (saving_words words.now)
+        × SaysOfReads S.Store (saving_command words.now) (files_end ended) store.old store.new
         × SaysOfCauses S.Store C.Connection ended store.old store.new connection.old connection.new
-        × SaysOfTalk C.Connection (S.files store.old) (saving_command words.items) description.now ended
+        × SaysOfTalk C.Connection (S.files store.old) (saving_command words.now) description.now ended
         connection.old connection.new
         × SaysOfLine E.Sink debugger_usage ended err.old err.new) }
 {
     let ended = obey(alloc, words, description, store, connection);
-    say(ended, USAGE, err);
-    status_of(ended)
+    finish(ended, USAGE, err)
 }
 
 // Does what the words ask for.
-#[tactic(auto, using(guest_commands::proofs::GuestWords::saves_alone, nesthv_top::proofs::CommandReads::nothing_read, nesthv_top::proofs::CommandReads::no_command_says))]
+#[tactic(auto, using(nesthv_top::proofs::CommandReads::no_command_says))]
 fn obey<S: Store, C: Connection>(
     alloc: Global,
-    words: Vec<Word>,
+    words: &[Word],
     description: &[u8],
     store: &mut S,
     connection: &mut C,
 ) -> Ended
-    ensures words { IsEndFor result (saving_words words.items) }
-    ensures reads { SaysOfReads S.Store (saving_command words.items) (files_end result)
+    ensures words { IsEndFor result (saving_words words.now) }
+    ensures reads { SaysOfReads S.Store (saving_command words.now) (files_end result)
         store.old store.new }
     ensures causes { SaysOfCauses S.Store C.Connection result store.old store.new
         connection.old connection.new }
-    ensures talk { SaysOfTalk C.Connection (S.files store.old) (saving_command words.items)
+    ensures talk { SaysOfTalk C.Connection (S.files store.old) (saving_command words.now)
         description.now result connection.old connection.new }
 {
-    if !are_plain(words.as_slice()) {
-        return Ended::NoCommand;
-    }
-    let Ok(words) = saving_words(alloc, words) else {
-        return Ended::NoMemory(0);
-    };
-    match request_of(alloc, words.as_slice()) {
-        Ok(Some(Request::OnFiles(request))) => {
-            answer(alloc, request, description, store, connection)
-        }
-        Ok(Some(Request::Work { .. })) => unreachable!(),
-        Ok(None) => Ended::NoCommand,
-        Err(_) => Ended::NoMemory(0),
+    match guest_request(words) {
+        Some(request) => answer(alloc, request, description, store, connection),
+        None => Ended::NoCommand,
     }
 }
 
-// Lets gdb look at the guest that a request names, which is one that saves it.
+// Lets gdb look at the guest that is asked for.
 fn answer<S: Store, C: Connection>(
     alloc: Global,
-    request: FileRequest<'_>,
+    request: GuestRequest<'_>,
     description: &[u8],
     store: &mut S,
     connection: &mut C,
 ) -> Ended
-    requires { IsSave (file_command_seen request) }
-    ensures command { IsOfCommand (OnFiles (file_command_seen request.entry)) result }
-    ensures reads { SaysOfReads S.Store (Some (OnFiles (file_command_seen request.entry)))
+    ensures command { IsOfCommand (OnFiles (guest_command request.entry)) result }
+    ensures reads { SaysOfReads S.Store (Some (OnFiles (guest_command request.entry)))
         (files_end result) store.old store.new }
     ensures causes { SaysOfCauses S.Store C.Connection result store.old store.new
         connection.old connection.new }
     ensures talk { SaysOfTalk C.Connection (S.files store.old)
-        (Some (OnFiles (file_command_seen request.entry))) description.now result
+        (Some (OnFiles (guest_command request.entry))) description.now result
         connection.old connection.new }
 {
-    let FileRequest::Save { guest, .. } = request else {
-        unreachable!();
-    };
     let mut reads = Reads::new();
-    let Loaded { job, .. } = match load(alloc, request, &mut reads, store) {
-        Ok(loaded) => loaded,
+    let guest = match load_guest(alloc, request, &mut reads, store) {
+        Ok(guest) => guest,
         Err(end) => return Ended::from(end),
     };
-    match talk_about(alloc, job, guest, description, connection) {
+    match talk_about(alloc, guest, description, connection) {
         Ok(()) => Ended::Done,
         Err(TalkEnd::ReadFault) => Ended::ReadFault(0),
         Err(TalkEnd::WriteFault) => Ended::WriteFault,

@@ -2,3 +2,4 @@ pub mod GuestWords
 pub mod LoadedPlans
 pub mod LoneMachines
 pub mod OwnSteps
+pub mod Statuses

@@ -1,13 +1,25 @@
-// The line that tells of an end.
+// How a program ends.
 
+ghost use Rattle.std.specs.Prelude.{◌≡◌};
 ghost use Rattle.guest_commands.specs.EndLines.{SaysOfLine};
+ghost use Rattle.nesthv_top.specs.Statuses.{status_of};
 ghost use Rattle.nesthv_top.specs.Written.{IsLinePut};
 
-use nesthv_top::{Ended, tell};
+use nesthv_top::{Ended, status_of, tell};
 use outside::Sink;
 
-/// Puts the line that tells of an end: where there is no command, this line of usage.
-pub fn say<E: Sink>(ended: Ended, usage: &[u8], err: &mut E)
+/// Puts the line that tells of an end, which is this line of usage where there is no command, and answers the
+/// end's status.
+pub fn finish<E: Sink>(ended: Ended, usage: &[u8], err: &mut E) -> u8
+    ensures status { result ≡ status_of ended }
+    ensures line { SaysOfLine E.Sink usage.now ended err.old err.new }
+{
+    say(ended, usage, err);
+    status_of(ended)
+}
+
+// Puts the line that tells of an end.
+fn say<E: Sink>(ended: Ended, usage: &[u8], err: &mut E)
     ensures { SaysOfLine E.Sink usage.now ended err.old err.new }
 {
     match ended {

@@ -1,30 +1,45 @@
 // Words that name a configuration and a guest, as those of a save do.
 
-ghost use Rattle.std.specs.Prelude.{◌≡◌, IfOk};
-ghost use Rattle.guest_commands.specs.GuestWords.{are_plain, saving_words};
+ghost use Rattle.std.specs.Prelude.{◌≡◌, ◌∷◌, codes, option_map};
+ghost use Rattle.command_line.specs.Commands.{OnFiles, asked_by};
+ghost use Rattle.guest_commands.specs.GuestWords.{guest_command, saving_command};
 
-use no_memory::NoMemory;
+use command_line::{are_plain, number_of};
 use outside::Word;
-use std::alloc::Global;
 
-/// Whether there is a word, and none after the first is empty or begins with a dash.
-pub fn are_plain(words: &[Word]) -> bool
-    ensures { result ≡ are_plain words.now }
+/// What words ask for: a guest, by its number, of the configuration in this file.
+#[derive(Clone, Copy, PartialEq, Eq)]
+pub struct GuestRequest<'a> {
+    pub config: &'a str,
+    pub guest: u32,
+}
+
+/// What words ask for, if none after the first is empty or begins with a dash, and two follow it: a
+/// configuration and a guest's number.
+#[tactic(auto, unfolding(command_line::specs::Commands::command_of))]
+pub fn guest_request<'a>(words: &'a [Word]) -> Option<GuestRequest<'a>>
+    ensures { option_map (λ request. OnFiles (guest_command request)) result
+        ≡ saving_command words.entry.now }
 {
     match words {
-        [] => false,
-        [_, rest @ ..] => command_line::are_plain(rest),
+        [_, rest @ ..] if are_plain(rest) => request_by(rest),
+        _ => None,
     }
 }
 
-/// The words with that of a command behind the program's name.
-pub fn saving_words(alloc: Global, words: Vec<Word>) -> Result<Vec<Word>, NoMemory>
-    ensures { IfOk result (λ all. all.items ≡ saving_words words.items) }
+// The same of the words after the program's name.
+fn request_by<'a>(words: &'a [Word]) -> Option<GuestRequest<'a>>
+    ensures { option_map (λ request. OnFiles (guest_command request)) result
+        ≡ asked_by (codes "save" ∷ words.entry.now) }
 {
-    let mut all = words;
-    if all.is_empty() {
-        return Ok(all);
+    match words {
+        [config, guest] => {
+            let guest = number_of(guest.as_str(), 2, 0, 99)? as u32;
+            Some(GuestRequest {
+                config: config.as_str(),
+                guest,
+            })
+        }
+        _ => None,
     }
-    all.insert(1, Word::new(alloc, "save")?)?;
-    Ok(all)
 }

@@ -9,10 +9,8 @@ pub returns-clause-source : goal.returns-clause-source
 returns-clause-source c =
     subst (λ (s : Source). IsBootableSource s) (sym c.source_at-source.ensures) (c.requires.job.sources c.args.guest c.source_at-source.result c.requires.guest)
 
-pub returns-clause-machine : goal.returns-clause-machine
-returns-clause-machine c =
-    begins_with c.args.job.sources.items c.args.guest c.source_at-source.result c.requires.guest c.source_at-source.ensures
-
-pub returns-clause-steps : goal.returns-clause-steps
-returns-clause-steps c =
-    c.own_steps-steps.ensures.value ∙ ap (λ (turns : List (ℕ × ℕ)). own_steps c.args.guest turns) (c.as_slice.ensures ∙ c.turns.ensures.turns)
+pub returns-clause-is : goal.returns-clause-is
+returns-clause-is c = record {
+  machine = begins_with c.args.job.sources.items c.args.guest c.source_at-source.result c.requires.guest c.source_at-source.ensures;
+  steps = c.own_steps-steps.ensures.value ∙ ap (λ (turns : List (ℕ × ℕ)). own_steps c.args.guest turns) (c.as_slice.ensures ∙ c.turns.ensures.turns);
+}
