@@ -79,7 +79,7 @@ pub record LeadsInto (memory : Memory) (e : Entry) : Type 0 where
   pub frame : ((memory.base ≤ e.frame * 4096) × (e.frame * 4096 + 4096 ≤ memory.base + length memory.bytes))
       ⊎ (e.frame ≡ device_frame)
 
--- so are those that can be filled for a guest of so many blocks
+-- so are those that can be filled for a guest of a number of blocks
 abbrev pub FilledLeadInto : Type 0
 FilledLeadInto = (blocks ram : List ℕ) (e : Entry) → length blocks ≤ 2 ^ 30
     → length ram ≡ length blocks * block_size → CanFill blocks e → LeadsInto (ram_memory ram) e

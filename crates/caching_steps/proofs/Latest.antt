@@ -24,7 +24,7 @@ one_noted : (n : Note) (name : CachedName) → noted_step (n ∷ []) name ≡ st
 unfolding noted_step
 one_noted n name = refl
 
--- the latest of the first so many notes
+-- the latest of the first n notes
 noted_to : (notes : List Note) (i : ℕ) (d : Note) (name : CachedName) → i < length notes
     → noted_step (take (i + 1) notes) name ≡ option_or (step_if (is_same_name (get_or notes i d).name name) (get_or notes i d).step) (noted_step (take i notes) name)
 noted_to notes i d name inside = ap (λ ns. noted_step ns name) (take_more notes i d inside)

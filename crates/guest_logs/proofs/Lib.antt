@@ -1,7 +1,10 @@
 pub mod Accesses
 pub mod Alone
+pub mod CachedNames
 pub mod Clocks
+pub mod Leading
 pub mod Logging
 pub mod Numbers
 pub mod Runs
+pub mod Wanting
 pub mod Words

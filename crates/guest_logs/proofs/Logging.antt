@@ -3,6 +3,8 @@ use Rattle.std.specs.Prelude.{Result, Ok, Err, is_ok, OnErr, OnOk}
 use Rattle.std.proofs.Common.{arith, ◌≡◌, ◌≤◌, ◌^◌, ℕ, false, true, List, [], ◌++◌, subst, sym}
 use Rattle.std.proofs.lemmas.List.{append-nil}
 use Rattle.log_lines.specs.declared.kinds.Kinds.{Kinds}
+use Rattle.fill_laws.specs.Keeping.{IsOrderly}
+use Rattle.guest_save.proofs.GoingOn.{savable_goes_on}
 use Rattle.machine_defs.specs.Machine.{Machine}
 use Rattle.outside.specs.declared.sinks.Sink as sinks
 use Rattle.outside.specs.Pieces.{Puts}
@@ -21,6 +23,9 @@ nothing_logged K kinds m from steps sink = logged_front K kinds m from steps sin
 pub source_is_early : (source : Source) → IsBootableSource source → (machine_of_source source).platform.steps ≤ 2 ^ 60
 source_is_early source bootable = (savable source bootable).steps
 
+pub source_is_orderly : (source : Source) → IsBootableSource source → IsOrderly (machine_of_source source)
+source_is_orderly source bootable = (savable_goes_on (machine_of_source source) (savable source bootable)).orderly
+
 -- by the end
 pub on_ok : {A E O : Type 0} (K : sinks.Ghosts O) (kinds : Kinds) (m : Machine) (from steps : ℕ) (result : Result A E) (old new : O)
     → HasLogged K kinds m from steps (is_ok result) old new → OnOk result (HasLogged K kinds m from steps true old new)
@@ -32,4 +37,4 @@ pub on_err : {A E O : Type 0} (K : sinks.Ghosts O) (kinds : Kinds) (m : Machine)
 on_err K kinds m from steps (Ok done) old new logged = tt
 on_err K kinds m from steps (Err end) old new logged = logged
 
-pub ruleset logging = (nothing_logged, source_is_early, on_ok, on_err)
+pub ruleset logging = (nothing_logged, source_is_early, source_is_orderly, on_ok, on_err)

@@ -1,7 +1,8 @@
 // One guest on the hart, whose run is made try by try.
 
-ghost use Rattle.std.specs.Prelude.{◌≡◌, ◌∷◌, [], ◌+◌, ◌^◌, ◌<◌, ◌≤◌, ◌++◌, IfOk, List, length, option_map, slice_index};
+ghost use Rattle.std.specs.Prelude.{◌≡◌, None, ◌∷◌, [], ◌+◌, ◌^◌, ◌<◌, ◌≤◌, ◌++◌, IfOk, List, length, option_map, slice_index};
 ghost use Rattle.arch_defs.specs.declared.cached.Entry.{Entry};
+ghost use Rattle.arch_defs.specs.Interrupts.{due};
 ghost use Rattle.arch_defs.specs.Memory.{load, ram_memory};
 ghost use Rattle.arch_defs.specs.Spaces.{front};
 ghost use Rattle.guest_logs.specs.HostTries.{IsAlone, IsAnswerTo, access_seen, hlv_wanted};
@@ -10,22 +11,30 @@ ghost use Rattle.guest_turns.specs.Sources.{machine_of_source, IsBootableSource}
 ghost use Rattle.machine_defs.specs.HlvAccesses.{hlv_place};
 ghost use Rattle.machine_defs.specs.Runs.{run};
 ghost use Rattle.run_log.specs.Steps.{access_made_if};
+ghost use Rattle.run_log.specs.Uses.{data_next};
 ghost use Rattle.step_lines.specs.MadeAccesses.{made_seen};
 
+use crate::cached_names::cached_names;
+use crate::uses::{LeafNow, NextUses};
 use arch_defs::{Entry, Virtual};
+use arrayvec::ArrayVec;
+use cached_uses::steps_use;
+use caching_steps::CachedName;
 use debug_runs::booted;
 use guest_save::Snapshot;
 use guest_turns::{Host, Made, Source, tries_make_steps, turns_count_alike};
+use log_lines::Leaf;
 use log_writer::{Act, MadeAccess, MemoryValue, TryRunner};
 use machine_defs::{Event, Status};
 use no_memory::NoMemory;
 use op_defs::DataAccess;
 use phys_mem::{BLOCK_SIZE, RAM_BASE};
-use rv64_hart::{Leaves, Tally};
+use run_log::Use;
+use rv64_hart::{Leaves, Tally, wanted_of};
 use std::alloc::Global;
 use std::marker::Model;
 
-// A new tally has room for a turn of so many steps.
+// A new tally has room for a turn of this many steps.
 const MOST_OF_TURN: u64 = 1 << 52;
 
 /// A host of one guest, which contracts see as the guest's lone machine.
@@ -97,6 +106,18 @@ impl HostTries {
             value = value * 256 + self.byte(offset + at) as u64;
         }
         value
+    }
+
+    // The access to data that its next instruction wants in its own mode.
+    #[tactic(auto, using(crate::proofs::Wanting::wanted_rules))]
+    fn wanted(&self) -> Option<DataAccess>
+        ensures { due self.now.platform.virt.csrs self.now.platform.virt.mode ≡ None
+            → result ≡ data_next self.now }
+    {
+        match self.host.word_next(0) {
+            Some(word) => wanted_of(self.host.state(0), word),
+            None => None,
+        }
     }
 
     // The access of an HLV, HLVX or HSV.
@@ -216,6 +237,20 @@ impl TryRunner for HostTries {
 
     fn found(&self) -> Leaves {
         self.host.found_next(0)
+    }
+
+    fn uses(&mut self) -> ArrayVec<Use, 10> {
+        steps_use();
+        let wanted = self.wanted();
+        self.host.ask(0, &NextUses { wanted })
+    }
+
+    fn leaf_now(&mut self, used: &Use) -> Option<Leaf> {
+        self.host.ask(0, &LeafNow { used: *used })
+    }
+
+    fn names(&self, alloc: Global) -> Result<Vec<CachedName>, NoMemory> {
+        cached_names(alloc, &self.host.view(0))
     }
 
     fn access(&mut self, act: &Act) -> Option<MadeAccess> {

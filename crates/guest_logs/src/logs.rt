@@ -1,6 +1,6 @@
 // The log of a guest alone.
 
-ghost use Rattle.std.specs.Prelude.{◌≡◌, ◌+◌, ◌^◌, ◌≤◌, false, true, IsErrOf, OnErr, OnOk};
+ghost use Rattle.std.specs.Prelude.{◌+◌, ◌^◌, ◌≤◌, false, true, IsErrOf, OnErr, OnOk};
 ghost use Rattle.guest_turns.specs.Sources.{machine_of_source, IsBootableSource};
 ghost use Rattle.log_writer.specs.Logging.{HasLogged};
 ghost use Rattle.outside.specs.Faults.{Rose};
@@ -11,12 +11,12 @@ use log_writer::{Kinds, LogEnd};
 use outside::Sink;
 use std::alloc::Global;
 
-/// Puts the log of so many steps of the guest of a source, alone, from one on.
+/// Puts the log of `steps` steps of the guest of a source, alone, from step `from` on.
 ///
 /// # Errors
 ///
-/// A fault of the sink, or want of memory for the host or for the counts: a front of the log has been put
-/// then.
+/// A fault of the sink, or want of memory for the host, for the counts or for the steps that have cached what
+/// is used: a front of the log has been put then.
 #[tactic(auto, using(crate::proofs::Logging::logging))]
 pub fn log_of<O: Sink>(
     alloc: Global,
@@ -28,7 +28,6 @@ pub fn log_of<O: Sink>(
 ) -> Result<(), LogEnd>
     requires bootable { IsBootableSource source }
     requires few { from + steps ≤ 2 ^ 54 }
-    requires stale { kinds.now.stale ≡ false }
     ensures log { OnOk result (HasLogged O.Sink kinds.now (machine_of_source source) from steps true
         out.old out.new) }
     ensures front { OnErr result (HasLogged O.Sink kinds.now (machine_of_source source) from steps false

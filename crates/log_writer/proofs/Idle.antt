@@ -98,7 +98,7 @@ counts_left_if : (asked : Bool) (origin : Machine) (from steps left : ℕ) (line
 counts_left_if true origin from steps left lines idle are = counts_left origin from steps left lines idle are
 counts_left_if false origin from steps left lines idle are = are
 
--- up to a step from another on, of which so many are to be counted
+-- up to a step from another on, of which a number of steps is to be counted
 pub counts_idle : (asked : Bool) (origin : Machine) (from steps n : ℕ) (lines : List CountLine) → from ≤ n → n ≤ from + steps → IsIdle origin n
     → AreCountsIf asked origin from (n - from) lines → AreCountsIf asked origin from steps lines
 counts_idle asked origin from steps n lines begins ends idle are =

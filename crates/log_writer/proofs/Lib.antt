@@ -5,4 +5,5 @@ mod Idle
 pub mod Logging
 mod Making
 mod NextFills
-mod Putting
+pub mod Putting
+mod StaleNotes

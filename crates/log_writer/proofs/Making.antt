@@ -25,12 +25,12 @@ use Rattle.run_log.specs.Stale.{stale_lines}
 use Rattle.run_log.specs.Steps.{step_lines}
 use Rattle.run_log.specs.Traps.{trap_lines, world_lines}
 use Rattle.step_logs.specs.Befores.{before_of}
-use Rattle.step_logs.specs.StepTexts.{IsOfStep, IsReadOf, lines_from_steps}
+use Rattle.step_logs.specs.StepTexts.{IsOfStep, IsReadOf}
 use Rattle.step_logs.specs.Tries.{IsOneTry, IsTry}
 use Rattle.step_logs.specs.declared.befores.Before.{Before}
 use Rattle.step_logs.specs.declared.tries.Try.{Try}
 use Rattle.step_logs.proofs.Inputs.{try_reads_one}
-use Rattle.log_writer.specs.Steps.{lines_from_first, second_lines}
+use Rattle.log_writer.specs.Steps.{lines_from_first, lines_from_stale, second_lines}
 use Rattle.log_writer.proofs.NextFills.{next_is, next_none}
 
 -- what fills leave of a step: they change the spaces alone, and its last try is the same
@@ -97,13 +97,17 @@ none_of : (asked : Bool) → if_asked asked [] ≡ []
 none_of true = refl
 none_of false = refl
 
-lacks_none : (now after : Machine) (event : Option Event) → IsOneTry now (Ok event) after → missing_entry now ≡ None
+pub lacks_none : (now after : Machine) (event : Option Event) → IsOneTry now (Ok event) after → missing_entry now ≡ None
 lacks_none now after None (none, waits, leaves) = none
 lacks_none now after (Some event) (none, events, leaves) = none
 
 pub second_none : (asked : Bool) (s : Seen) (now after : Machine) (event : Option Event) → IsOneTry now (Ok event) after
     → second_lines asked s (next_filled now) ≡ []
 second_none asked s now after event made = ap (second_lines asked s) (next_none now (lacks_none now after event made)) ∙ none_of asked
+
+-- the last try is that of the machine at which the step lacks nothing
+pub at_last : (before now after : Machine) (event : Option Event) → IsFilled before now → IsOneTry now (Ok event) after → now ≡ ready before
+at_last before now after event filled made = sym (no_fills (most_fills now) now (lacks_none now after event made)) ∙ filled.ready
 
 -- after a try that has filled an entry
 pub filled_try : (before now after : Machine) (e : Entry) → IsFilled before now → needed ≤ now.entry_room → IsOneTry now (Err e) after
@@ -137,14 +141,13 @@ nested a b c d e f g =
     ∙ append_assoc (a ++ b) c (d ++ (e ++ (f ++ g)))
     ∙ append_assoc a b (c ++ (d ++ (e ++ (f ++ g))))
 
-pub step_lines_are : (kinds : Kinds) (origin : Machine) (from : ℕ) (s : Seen) → kinds.stale ≡ false
-    → lines_of_step kinds origin from s ≡ second_lines kinds.fills s (next_filled s.before) ++ lines_from_first kinds s
+pub step_lines_are : (kinds : Kinds) (origin : Machine) (from : ℕ) (s : Seen)
+    → lines_of_step kinds origin from s ≡ second_lines kinds.fills s (next_filled s.before) ++ lines_from_first kinds origin from s
 unfolding fill_lines
-step_lines_are kinds origin from s none =
+step_lines_are kinds origin from s =
     nested (if_asked kinds.fills (fill_lines s)) (if_asked kinds.stale (stale_lines origin from s)) (if_asked kinds.steps (step_lines s))
     (if_asked kinds.calls (call_lines s)) (if_asked kinds.fences (fence_lines s)) (if_asked kinds.traps (trap_lines s))
     (if_asked kinds.worlds (world_lines s))
-    ∙ ap (λ (asked : Bool). if_asked kinds.fills (fill_lines s) ++ (if_asked asked (stale_lines origin from s) ++ lines_from_steps kinds s)) none
     ∙ fills_apart kinds.fills
     (map (λ e. fill_line s (second_translation s.before.platform.virt.csrs.hgatp e)) (next_filled s.before))
-    (map (λ e. fill_line s (first_translation e)) (next_found s.before)) (lines_from_steps kinds s)
+    (map (λ e. fill_line s (first_translation e)) (next_found s.before)) (lines_from_stale kinds origin from s)

@@ -1,7 +1,8 @@
 -- Lines that are put in turn: whatever puts those that are left puts all.
-use Rattle.std.proofs.Common.{arith, ◌≡◌, sym, subst, ℕ, List, [], ◌++◌, Bool, true, false}
+use Rattle.std.proofs.Common.{arith, ◌≡◌, length, sym, subst, ℕ, List, [], ◌++◌, Bool, true, false}
 use Rattle.std.proofs.lemmas.Grind.{common_steps}
 use Rattle.std.proofs.lemmas.List.{append-nil}
+use Rattle.std.proofs.Math.Seq.{take-length}
 use Rattle.log_lines.specs.declared.lines.Line.{Line}
 use Rattle.outside.specs.Pieces.{Appends, Puts}
 use Rattle.run_log.specs.Log.{text_of_lines}
@@ -32,6 +33,13 @@ module _ {S : Type 0} (stands_for : S → List ℕ → Type 0) where
       left mid true
       (subst (λ (l : List Line). Puts stands_for mid mid true (text_of_lines l)) (sym none) (none_put stands_for mid))
 
+  -- what has been put whole is a front too, and so is nothing
+  pub whole_front : (old new : S) (text : List ℕ) → Appends stands_for old new text → Puts stands_for old new false text
+  whole_front old new text whole = (length text, omega arith, subst (Appends stands_for old new) (sym (take-length text)) whole)
+
+  pub none_front : (old : S) (text : List ℕ) → Puts stands_for old old false text
+  none_front old text = (0, grind (arith, common_steps), λ before stood. rw (append-nil before) stood)
+
   -- and those that have been put are a front of all
   pub rest_front : (old mid : S) (lines all : List Line) → PutsRest old mid lines all → Puts stands_for old mid false (text_of_lines all)
-  rest_front old mid lines all left = left mid false (0, grind (arith, common_steps), λ before stood. rw (append-nil before) stood)
+  rest_front old mid lines all left = left mid false (none_front mid (text_of_lines lines))

@@ -1,3 +1,4 @@
 pub mod Counting
 pub mod Logging
+pub mod StaleLogs
 pub mod Steps

@@ -1,5 +1,5 @@
 -- A step of the log that has been made, and the lines of what it has cached.
-use Rattle.std.specs.Prelude.{◌≡◌, ◌+◌, ◌^◌, ◌<◌, ◌≤◌, Bool, List, ◌++◌, map}
+use Rattle.std.specs.Prelude.{ℕ, ◌≡◌, ◌+◌, ◌^◌, ◌<◌, ◌≤◌, Bool, List, ◌++◌, Result, Ok, Err, map}
 use Rattle.std.specs.Option.{option_to_list}
 use Rattle.arch_defs.specs.declared.cached.Entry.{Entry}
 use Rattle.guest_settings.specs.declared.statuses.Status.TheVariants.{Running}
@@ -10,9 +10,11 @@ use Rattle.machine_defs.specs.Machine.{Machine}
 use Rattle.run_log.specs.Fills.{fill_line, first_translation, second_translation}
 use Rattle.run_log.specs.Log.{if_asked}
 use Rattle.run_log.specs.Seen.{Seen}
+use Rattle.run_log.specs.Stale.{stale_lines}
 use Rattle.run_log.specs.Traps.{step_events}
 use Rattle.step_logs.specs.Befores.{before_of}
 use Rattle.step_logs.specs.StepTexts.{IsOfStep, lines_from_steps}
+use Rattle.step_logs.specs.Tries.{IsOneTry, IsTry}
 use Rattle.step_logs.specs.declared.befores.Before.{Before}
 use Rattle.step_logs.specs.declared.step_texts.Tried.{Tried}
 use Rattle.log_writer.specs.declared.steps.Made.{Made}
@@ -22,16 +24,27 @@ abbrev pub second_lines : Bool → Seen → List Entry → List Line
 second_lines asked s entries = if_asked asked
     (map (λ e. fill_line s (second_translation s.before.platform.virt.csrs.hgatp e)) entries)
 
--- those of what it has cached of the first stage, and the others of the step
-abbrev pub lines_from_first : Kinds → Seen → List Line
-lines_from_first kinds s =
-    if_asked kinds.fills (map (λ e. fill_line s (first_translation e)) (next_found s.before))
-    ++ lines_from_steps kinds s
+-- those of what it has cached of the first stage
+abbrev pub first_lines : Bool → Seen → List Line
+first_lines asked s = if_asked asked (map (λ e. fill_line s (first_translation e)) (next_found s.before))
+
+-- the lines of a step from a kind on
+abbrev pub lines_from_stale : Kinds → Machine → ℕ → Seen → List Line
+lines_from_stale kinds origin from s =
+    if_asked kinds.stale (stale_lines origin from s) ++ lines_from_steps kinds s
+
+abbrev pub lines_from_first : Kinds → Machine → ℕ → Seen → List Line
+lines_from_first kinds origin from s = first_lines kinds.fills s ++ lines_from_stale kinds origin from s
 
 -- a machine goes on, and its count of steps is far from its type's end
 pub record CanMakeStep (m : Machine) : Type 0 where
   pub running : m.platform.status ≡ Running
   pub early : m.platform.steps < 2 ^ 61
+
+-- one try has been made, which this tells of, or an entry that the step lacked has been filled
+abbrev pub IsTriedOnce : Kinds → Machine → Result Tried Entry → Machine → Type 0
+IsTriedOnce kinds m (Ok made) after = IsTry kinds m made.tried × IsOneTry m (Ok made.event) after
+IsTriedOnce kinds m (Err e) after = IsOneTry m (Err e) after
 
 -- what is kept is that of a step, which has been made with this last try
 pub record IsTriedStep (kinds : Kinds) (s : Seen) (kept : Before) (made : Tried) (m : Machine) : Type 0 where

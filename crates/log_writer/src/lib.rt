@@ -4,8 +4,9 @@
 mod counts;
 mod log_ends;
 mod logs;
+mod stale_logs;
 mod steps;
 
 pub use log_ends::LogEnd;
 pub use logs::log_of;
-pub use step_logs::{Act, Kinds, MadeAccess, MemoryValue, TryRunner};
+pub use step_logs::{Act, CachedName, Kinds, MadeAccess, MemoryValue, TryRunner, Use};

@@ -1,8 +1,9 @@
 // The log of a run.
 
-ghost use Rattle.std.specs.Prelude.{◌≡◌, ◌+◌, ◌^◌, ◌<◌, ◌≤◌, ℕ, false, is_ok, IfOk, IsErrOf, OnOk};
+ghost use Rattle.std.specs.Prelude.{◌≡◌, ◌+◌, ◌^◌, ◌<◌, ◌≤◌, ℕ, true, is_ok, IfOk, IsErrOf, OnOk};
 ghost use Rattle.std.specs.List.{list_any};
 ghost use Rattle.std.specs.Option.{option_to_list};
+ghost use Rattle.fill_laws.specs.Keeping.{IsOrderly};
 ghost use Rattle.log_writer.specs.Logging.{HasLogged};
 ghost use Rattle.machine_defs.specs.Machine.{Machine};
 ghost use Rattle.machine_defs.specs.Runs.{is_instruction, run};
@@ -16,6 +17,7 @@ ghost use Rattle.step_logs.specs.Befores.{before_of};
 
 use crate::counts::Counts;
 use crate::log_ends::LogEnd;
+use crate::stale_logs::StaleLog;
 use crate::steps::{Made, log_step};
 use log_lines::Kinds;
 use machine_defs::{Event, Status};
@@ -75,7 +77,7 @@ fn count_step(counts: &mut Counts, asked: bool, made: &Made) -> Result<(), NoMem
     }
 }
 
-// Puts the lines of so many steps, from one on, and counts their instructions.
+// Puts the lines of `steps` steps, from step `from` on, and counts their instructions.
 fn log_steps<R: TryRunner, O: Sink>(
     alloc: Global,
     runner: &mut R,
@@ -86,31 +88,33 @@ fn log_steps<R: TryRunner, O: Sink>(
 ) -> Result<Counts, LogEnd>
     requires early { (R.machine runner.old).platform.steps ≤ 2 ^ 60 + from }
     requires few { from + steps ≤ 2 ^ 54 }
-    requires stale { kinds.now.stale ≡ false }
     ensures counted { IfOk result (λ counts. (origin : Machine) → R.machine runner.old ≡ run origin from
         → AreCountsIf kinds.now.counts origin from steps counts) }
     ensures bytes { (origin : Machine) → R.machine runner.old ≡ run origin from
-        → Puts O.stands_for out.old out.new (is_ok result)
+        → (kinds.now.stale ≡ true → IsOrderly origin) → Puts O.stands_for out.old out.new (is_ok result)
         (text_of_lines (lines_from kinds.now origin from steps)) }
     ensures cause { IsErrOf result LogEnd.WriteFault → Rose (O.faults out.old) (O.faults out.new) }
     ensures count { O.faults out.old ≤ O.faults out.new }
 {
     let mut counts = Counts::new(alloc);
+    let mut stale = StaleLog::new(alloc);
     for number in from..from + steps {
         if runner.status() != Status::Running {
             return Ok(counts);
         }
-        let made = log_step(runner, kinds, number, out)?;
+        let made = log_step(runner, kinds, number, &mut stale, out)?;
         count_step(&mut counts, kinds.counts, &made)?;
+        stale.renew_if(alloc, kinds.stale, runner)?;
     }
     Ok(counts)
 }
 
-/// Puts the log of so many steps of a machine's run, from one on.
+/// Puts the log of `steps` steps of a machine's run, from step `from` on.
 ///
 /// # Errors
 ///
-/// A fault of the sink, or want of memory for the counts: a front of the log has been put then.
+/// A fault of the sink, or want of memory for counts or for the steps that have cached what is
+/// cached: a front of the log has been put then.
 pub fn log_of<R: TryRunner, O: Sink>(
     alloc: Global,
     runner: &mut R,
@@ -121,7 +125,7 @@ pub fn log_of<R: TryRunner, O: Sink>(
 ) -> Result<(), LogEnd>
     requires early { (R.machine runner.old).platform.steps ≤ 2 ^ 60 }
     requires few { from + steps ≤ 2 ^ 54 }
-    requires stale { kinds.now.stale ≡ false }
+    requires orderly { kinds.now.stale ≡ true → IsOrderly (R.machine runner.old) }
     ensures log { HasLogged O.Sink kinds.now (R.machine runner.old) from steps (is_ok result)
         out.old out.new }
     ensures cause { IsErrOf result LogEnd.WriteFault → Rose (O.faults out.old) (O.faults out.new) }

@@ -1,17 +1,26 @@
 // One step of the log: it is made, and its lines are put.
 
-ghost use Rattle.std.specs.Prelude.{◌≡◌, ◌≤◌, ℕ, [], ◌∷◌, false, is_ok, IfOk, OnErr};
+ghost use Rattle.std.specs.Prelude.{◌≡◌, ◌+◌, ◌≤◌, ◌++◌, ℕ, [], ◌∷◌, true, is_ok, IfOk, IsErrOf, OnErr, OnOk};
+ghost use Rattle.std.specs.Option.{option_to_list};
+ghost use Rattle.caching_steps.specs.Noting.{second_name};
+ghost use Rattle.caching_steps.specs.Remembering.{fill_notes, found_notes, notes_of};
 ghost use Rattle.guest_settings.specs.declared.statuses.Status.TheVariants.{Running};
-ghost use Rattle.log_writer.specs.Steps.{CanMakeStep, HasBeenMade, IsTriedStep, lines_from_first, second_lines};
+ghost use Rattle.log_writer.specs.StaleLogs.{HasShown, IsShownOf};
+ghost use Rattle.log_writer.specs.Steps.{CanMakeStep, HasBeenMade, IsTriedOnce, IsTriedStep, lines_from_first, second_lines};
+ghost use Rattle.machine_defs.specs.Fills.{needed};
 ghost use Rattle.machine_defs.specs.Machine.{Machine};
 ghost use Rattle.outside.specs.Faults.{Rose};
 ghost use Rattle.outside.specs.Pieces.{Puts};
 ghost use Rattle.run_log.specs.Fills.{fill_line, next_filled, second_translation};
 ghost use Rattle.run_log.specs.Log.{lines_of_step, text_of_lines};
 ghost use Rattle.run_log.specs.Seen.{Seen, seen_from};
+ghost use Rattle.run_log.specs.Traps.{step_events};
 ghost use Rattle.step_logs.specs.Befores.{before_of};
+ghost use Rattle.step_logs.specs.StaleUses.{ShowsUses, TellUses};
 ghost use Rattle.step_logs.specs.StepTexts.{IsOfStep};
 
+use crate::log_ends::LogEnd;
+use crate::stale_logs::StaleLog;
 use arch_defs::Entry;
 use log_lines::{FillLine, Kinds, Line};
 use machine_defs::Event;
@@ -57,48 +66,103 @@ fn put_second<O: Sink>(
     }
 }
 
-// Makes a step, and puts the lines of what it caches of the second stage.
+// The same, once it has been noted where stale uses are asked for.
+#[tactic(auto, using(crate::proofs::Putting::none_front))]
+fn log_fill<O: Sink>(
+    kinds: &Kinds,
+    before: &Before,
+    entry: &Entry,
+    stale: &mut StaleLog,
+    out: &mut O,
+) -> Result<(), LogEnd>
+    ensures noted { OnOk result (kinds.now.stale ≡ true → stale.new.steps ≡ stale.old.steps
+        ++ notes_of before.now.number (second_name before.now.csrs.hgatp entry.now ∷ [])) }
+    ensures bytes { (s : Seen) → before.now ≡ before_of s.number s.before
+        → Puts O.stands_for out.old out.new (is_ok result)
+        (text_of_lines (second_lines kinds.now.fills s (entry.now ∷ []))) }
+    ensures cause { IsErrOf result LogEnd.WriteFault → Rose (O.faults out.old) (O.faults out.new) }
+    ensures count { O.faults out.old ≤ O.faults out.new }
+{
+    stale.note_second(kinds.stale, before, entry)?;
+    put_second(kinds.fills, before, entry, out)?;
+    Ok(())
+}
+
+// Makes one try, after a look at what it is about to do.
+fn try_once<R: TryRunner>(
+    runner: &mut R,
+    kinds: &Kinds,
+    stale: &mut StaleLog,
+) -> Result<Tried, Entry>
+    requires goes_on { CanMakeStep (R.machine runner.old) }
+    ensures tried { IsTriedOnce kinds.now (R.machine runner.old) result (R.machine runner.new) }
+    ensures most { (R.machine runner.new).platform.steps ≤ (R.machine runner.old).platform.steps + 1 }
+    ensures room { needed ≤ (R.machine runner.old).entry_room }
+    ensures shown { kinds.now.stale ≡ true → ShowsUses (R.machine runner.old) stale.new.shown }
+    ensures steps { stale.new.steps ≡ stale.old.steps }
+{
+    let tried = Try::next(runner, kinds);
+    stale.look(kinds.stale, runner);
+    let event = runner.make_try()?;
+    Ok(Tried { tried, event })
+}
+
+// Makes a step, and puts the lines of what it caches of the second stage. Shows the stale uses of its last
+// try, where these are asked for.
 fn make_step<R: TryRunner, O: Sink>(
     runner: &mut R,
     kinds: &Kinds,
     before: &Before,
+    stale: &mut StaleLog,
     out: &mut O,
-) -> Result<Tried, SinkFault>
+) -> Result<Tried, LogEnd>
     requires before { before.now ≡ before_of before.now.number (R.machine runner.old) }
     requires goes_on { CanMakeStep (R.machine runner.old) }
     ensures step { IfOk result (λ made. IsTriedStep kinds.now
         (seen_from before.now.number (R.machine runner.old)) before.now made (R.machine runner.new)) }
+    ensures shown { OnOk result (kinds.now.stale ≡ true
+        → HasShown (seen_from before.now.number (R.machine runner.old)) stale.old stale.new) }
     ensures bytes { Puts O.stands_for out.old out.new (is_ok result) (text_of_lines
         (second_lines kinds.now.fills (seen_from before.now.number (R.machine runner.old))
         (next_filled (R.machine runner.old)))) }
-    ensures cause { OnErr result (Rose (O.faults out.old) (O.faults out.new)) }
+    ensures cause { IsErrOf result LogEnd.WriteFault → Rose (O.faults out.old) (O.faults out.new) }
     ensures count { O.faults out.old ≤ O.faults out.new }
 {
     loop {
-        let tried = Try::next(runner, kinds);
-        match runner.make_try() {
-            Ok(event) => return Ok(Tried { tried, event }),
-            Err(entry) => put_second(kinds.fills, before, &entry, out)?,
+        match try_once(runner, kinds, stale) {
+            Ok(made) => return Ok(made),
+            Err(entry) => log_fill(kinds, before, &entry, stale, out)?,
         }
     }
 }
 
-// Puts the other lines of a step that has been made.
+// Puts the other lines of a step that has been made, and notes what it has cached of the first stage.
 fn put_step<R: TryRunner, O: Sink>(
     runner: &R,
     kinds: &Kinds,
     before: &Before,
     made: &Tried,
+    stale: &mut StaleLog,
     out: &mut O,
-) -> Result<(), SinkFault>
-    ensures bytes { (s : Seen) → IsOfStep kinds.now s before.now made.now (R.machine runner.now)
-        → s.before.platform.status ≡ Running → Puts O.stands_for out.old out.new (is_ok result)
-        (text_of_lines (lines_from_first kinds.now s)) }
-    ensures cause { OnErr result (Rose (O.faults out.old) (O.faults out.new)) }
+) -> Result<(), LogEnd>
+    ensures noted { OnOk result ((s : Seen) → kinds.now.stale ≡ true
+        → IsShownOf s before.now stale.old.shown → s.before.platform.status ≡ Running
+        → step_events s ≡ option_to_list made.now.event
+        → stale.new.steps ≡ stale.old.steps ++ found_notes s.number s.before) }
+    ensures bytes { (origin : Machine) (from : ℕ) (s : Seen)
+        → IsOfStep kinds.now s before.now made.now (R.machine runner.now)
+        → s.before.platform.status ≡ Running
+        → (kinds.now.stale ≡ true → ShowsUses s.tried stale.old.shown)
+        → (kinds.now.stale ≡ true → TellUses origin from s stale.old.steps)
+        → Puts O.stands_for out.old out.new (is_ok result)
+        (text_of_lines (lines_from_first kinds.now origin from s)) }
+    ensures cause { IsErrOf result LogEnd.WriteFault → Rose (O.faults out.old) (O.faults out.new) }
     ensures count { O.faults out.old ≤ O.faults out.new }
 {
     put_first(kinds.fills, before, made, out)?;
-    put_from_steps(runner, kinds, before, made, out)
+    stale.put_if(kinds.stale, before, &made.event, out)?;
+    put_from_steps(runner, kinds, before, made, out)?;
+    Ok(())
 }
 
 /// Makes the step of this number of a machine that goes on, and puts its lines.
@@ -106,20 +170,26 @@ pub fn log_step<R: TryRunner, O: Sink>(
     runner: &mut R,
     kinds: &Kinds,
     number: u64,
+    stale: &mut StaleLog,
     out: &mut O,
-) -> Result<Made, SinkFault>
+) -> Result<Made, LogEnd>
     requires goes_on { CanMakeStep (R.machine runner.old) }
-    requires stale { kinds.now.stale ≡ false }
     ensures made { IfOk result (λ made.
         HasBeenMade (seen_from number (R.machine runner.old)) made (R.machine runner.new)) }
-    ensures bytes { (origin : Machine) (from : ℕ) → Puts O.stands_for out.old out.new (is_ok result)
+    ensures noted { OnOk result (kinds.now.stale ≡ true → stale.new.steps
+        ≡ (stale.old.steps ++ fill_notes number (R.machine runner.old))
+        ++ found_notes number (R.machine runner.old)) }
+    ensures bytes { (origin : Machine) (from : ℕ)
+        → (kinds.now.stale ≡ true → TellUses origin from (seen_from number (R.machine runner.old))
+        (stale.old.steps ++ fill_notes number (R.machine runner.old)))
+        → Puts O.stands_for out.old out.new (is_ok result)
         (text_of_lines (lines_of_step kinds.now origin from (seen_from number (R.machine runner.old)))) }
-    ensures cause { OnErr result (Rose (O.faults out.old) (O.faults out.new)) }
+    ensures cause { IsErrOf result LogEnd.WriteFault → Rose (O.faults out.old) (O.faults out.new) }
     ensures count { O.faults out.old ≤ O.faults out.new }
 {
     let before = Before::of(runner, number);
-    let made = make_step(runner, kinds, &before, out)?;
-    put_step(runner, kinds, &before, &made, out)?;
+    let made = make_step(runner, kinds, &before, stale, out)?;
+    put_step(runner, kinds, &before, &made, stale, out)?;
     Ok(Made {
         before,
         event: made.event,

@@ -23,7 +23,7 @@ count_key s = let virt = s.before.platform.virt in record {
 abbrev pub is_executed : CountKey → Seen → Bool
 is_executed key s = if is_same_key key (count_key s) then list_any is_instruction (step_events s) else false
 
--- how often, in so many steps from one on
+-- how often, in a number of steps from one on
 unfoldable pub times : Machine → ℕ → ℕ → CountKey → ℕ
 times origin from steps key = count_by (λ n. is_executed key (seen origin n)) (range_with_len from steps)
 

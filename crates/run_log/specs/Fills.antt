@@ -19,7 +19,7 @@ use Rattle.machine_defs.specs.Freshness.{next_found}
 use Rattle.machine_defs.specs.Machine.{Machine}
 use Rattle.run_log.specs.Seen.{Seen, head_of}
 
--- what is filled for a machine's next step, in order, at most so many
+-- what is filled for a machine's next step, in order, up to a limit
 abbrev pub filled_then : (Machine → List Entry) → Machine → Option Entry → List Entry
 filled_then others m None = []
 filled_then others m (Some e) = e ∷ others (fill m e)

@@ -53,14 +53,14 @@ abbrev pub AreCountsIf : Bool → Machine → ℕ → ℕ → List CountLine →
 AreCountsIf true origin from steps counts = AreCounts origin from steps counts
 AreCountsIf false origin from steps counts = counts ≡ []
 
--- the bytes of the log of so many steps of a machine's run
+-- the bytes of the log of a number of steps of a machine's run
 pub record IsLog (kinds : Kinds) (origin : Machine) (from steps : ℕ) (bytes : List ℕ) : Type 0 where
   pub counts : List CountLine
   pub counted : AreCountsIf kinds.counts origin from steps counts
   pub text :
       bytes ≡ text_of_lines (lines_from kinds origin from steps) ++ text_of_lines (map line.Count counts)
 
--- how many steps there are from one up to another, where the run has so many: none, where it begins behind
+-- how many steps of the run lie from one up to another: none, where it begins behind
 -- its end
 abbrev pub steps_between : ℕ → ℕ → ℕ → ℕ
 steps_between from to last = min to last - from

@@ -121,7 +121,7 @@ step_line s =
       stored = memory_stored s.tried s.after.ram (access_made s.tried);
     }
 
--- a wait for good is no step
+-- a wait for good is not a step
 abbrev pub step_line_for : Seen → Event → List Line
 step_line_for s event = line.Step (step_line s) ∷ []
 

@@ -30,7 +30,7 @@ held_with_found m virt first found items second none same finds fills shown many
     fills ∙ ap (λ (v : Virtual). all_filled v.first found) same ∙ ap (all_filled m.platform.virt.first) found_is in
     ap (λ (n : ℕ). held n second) (ap (λ (l : List FirstEntry). length l) (shown ∙ filled)) ∙ ap (held _) many
 
--- a fence is no interrupt
+-- a fence is not an interrupt
 no_fence : (m : Machine) (code : Option ℕ) (fence : FenceOp) (named : Fence) → Fences fence named ≡ act_in (step_outcome_with m code) → code ≡ None
 no_fence m (Some code) fence named is = absurd cc
 no_fence m None fence named is = refl

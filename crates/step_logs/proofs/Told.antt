@@ -1,5 +1,5 @@
 -- The lines that are told of a step are those of the log.
-use Rattle.std.proofs.Common.{◌≡◌, ◌∙◌, refl, sym, ap, drop, length, ℕ, List, [], ◌∷◌, ◌++◌, Bool, true, false, Option, Some, None, map}
+use Rattle.std.proofs.Common.{◌≡◌, ◌∙◌, refl, sym, ap, drop, ℕ, List, [], ◌∷◌, ◌++◌, Bool, true, false, Option, Some, None, map}
 use Rattle.std.proofs.lemmas.List.{append_assoc}
 use Rattle.std.specs.Option.{option_to_list}
 use Rattle.arch_defs.specs.declared.first.FirstEntry.{FirstEntry}
@@ -25,7 +25,7 @@ use Rattle.run_log.specs.Calls.{bytes_put, call_lines, call_lines_by, inputs_rea
 use Rattle.run_log.specs.Log.{if_asked}
 use Rattle.run_log.specs.Fences.{fence_lines, fence_lines_by}
 use Rattle.run_log.specs.Fills.{fill_line, first_translation}
-use Rattle.run_log.specs.Seen.{Seen, head_of, head_with, step_outcome}
+use Rattle.run_log.specs.Seen.{Seen, head_of, step_outcome}
 use Rattle.run_log.specs.Steps.{access_made, memory_read, memory_stored, step_line_for, step_lines, step_word}
 use Rattle.run_log.specs.Traps.{cause_in, step_events, trap_lines, trap_lines_by, world_line, world_lines, world_lines_by}
 use Rattle.std.specs.List.{flat_map}
@@ -34,7 +34,6 @@ use Rattle.rv64_hart.specs.Leaves.{leaves_list}
 use Rattle.step_lines.specs.Acts.{act_in}
 use Rattle.step_lines.specs.StepLines.{call_line_of, fence_line_of, step_line_of, trap_line_of}
 use Rattle.step_lines.specs.declared.acts.Act.{Act}
-use Rattle.step_lines.specs.declared.acts.Act.TheVariants as act
 use Rattle.step_lines.specs.declared.fences.Held.{Held}
 use Rattle.step_logs.specs.Befores.{before_of, head_before}
 use Rattle.step_logs.specs.declared.befores.Before.{Before}
@@ -192,14 +191,20 @@ module _ (s : Seen) where
   if_not found (Ended after event) is = absurd cc
   if_not found WaitsForGood is = refl
 
+  pub found_of_step : (e : Event) (found : FoundLeaves) → s.tried ≡ ready s.before → s.before.platform.status ≡ Running → step_events s ≡ e ∷ []
+      → leaves_list found ≡ found_by_try (stages_of s.tried) s.tried → leaves_list found ≡ next_found s.before
+  found_of_step e found last running events finds =
+      finds ∙ ap (λ (m : Machine). found_by_try (stages_of m) m) last
+      ∙ sym (found_is running ∙ if_made _ (try (ready s.before)) e (sym (events_are running) ∙ events))
+
+  pub none_of_step : s.before.platform.status ≡ Running → step_events s ≡ [] → next_found s.before ≡ []
+  none_of_step running events = found_is running ∙ if_not _ (try (ready s.before)) (sym (events_are running) ∙ events)
+
   pub first_told : (e : Event) (found : FoundLeaves) → s.tried ≡ ready s.before → s.before.platform.status ≡ Running → step_events s ≡ e ∷ []
       → leaves_list found ≡ found_by_try (stages_of s.tried) s.tried
       → found_lines s found ≡ map (λ e. fill_line s (first_translation e)) (next_found s.before)
-  first_told e found last running events finds =
-      sym (found_are s found)
-      ∙ ap (λ (l : List FirstEntry). map (λ e. fill_line s (first_translation e)) l)
-      (finds ∙ ap (λ (m : Machine). found_by_try (stages_of m) m) last
-      ∙ sym (found_is running ∙ if_made _ (try (ready s.before)) e (sym (events_are running) ∙ events)))
+  first_told e found last running events finds = sym (found_are s found)
+      ∙ ap (λ (l : List FirstEntry). map (λ e. fill_line s (first_translation e)) l) (found_of_step e found last running events finds)
 
   none_if : (asked : Bool) (l : List Line) → l ≡ [] → if_asked asked l ≡ []
   none_if true l is = is
@@ -208,5 +213,4 @@ module _ (s : Seen) where
   pub none_told : (asked : Bool) → s.before.platform.status ≡ Running → step_events s ≡ []
       → if_asked asked (map (λ e. fill_line s (first_translation e)) (next_found s.before)) ≡ []
   none_told asked running events =
-      none_if asked _ (ap (λ (l : List FirstEntry). map (λ e. fill_line s (first_translation e)) l)
-      (found_is running ∙ if_not _ (try (ready s.before)) (sym (events_are running) ∙ events)))
+      none_if asked _ (ap (λ (l : List FirstEntry). map (λ e. fill_line s (first_translation e)) l) (none_of_step running events))

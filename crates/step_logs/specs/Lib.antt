@@ -1,3 +1,4 @@
 pub mod Befores
+pub mod StaleUses
 pub mod StepTexts
 pub mod Tries

@@ -1,23 +1,31 @@
 // What runs a machine try by try.
 
-ghost use Rattle.std.specs.Prelude.{◌≡◌, ◌+◌, ◌^◌, ◌<◌, ◌≤◌, option_map};
+ghost use Rattle.std.specs.Prelude.{◌≡◌, ◌+◌, ◌^◌, ◌<◌, ◌≤◌, option_map, IfOk};
 ghost use Rattle.guest_settings.specs.declared.statuses.Status.TheVariants.{Running};
 ghost use Rattle.machine_defs.specs.Fills.{needed};
 ghost use Rattle.machine_defs.specs.Machine.{Machine};
 ghost use Rattle.machine_defs.specs.Runs.{run};
 ghost use Rattle.machine_defs.specs.Tries.{found_by_try, stages_of};
 ghost use Rattle.rv64_hart.specs.Leaves.{LeavesFit, leaves_list};
+ghost use Rattle.caching_steps.specs.Remembering.{cached_names};
 ghost use Rattle.run_log.specs.Fences.{second_count};
 ghost use Rattle.run_log.specs.Seen.{step_outcome};
+ghost use Rattle.run_log.specs.Stale.{leaf_now};
 ghost use Rattle.run_log.specs.Steps.{access_made, step_word, value_in};
+ghost use Rattle.run_log.specs.Uses.{uses};
 ghost use Rattle.step_lines.specs.Acts.{act_in};
 ghost use Rattle.step_lines.specs.MadeAccesses.{made_seen};
 ghost use Rattle.step_logs.specs.Tries.{IsOneTry};
 
 use arch_defs::{Entry, Virtual};
-use log_lines::MemoryValue;
+use arrayvec::ArrayVec;
+use caching_steps::CachedName;
+use log_lines::{Leaf, MemoryValue};
 use machine_defs::{Event, Status};
+use no_memory::NoMemory;
+use run_log::Use;
 use rv64_hart::Leaves;
+use std::alloc::Global;
 use step_lines::{Act, MadeAccess};
 
 /// What runs a machine, and shows what its next try is about to do.
@@ -67,6 +75,20 @@ pub trait TryRunner {
         ensures found { leaves_list result
             ≡ found_by_try (stages_of (machine self.now)) (machine self.now) }
         ensures fits { LeavesFit result };
+
+    /// The cached translations by which its next try goes. Nothing changes.
+    fn uses(&mut self) -> ArrayVec<Use, 10>
+        ensures uses { result.items ≡ uses (machine self.old) }
+        ensures stays { machine self.new ≡ machine self.old };
+
+    /// What its tables give now for the access of a use. Nothing changes.
+    fn leaf_now(&mut self, used: &Use) -> Option<Leaf>
+        ensures leaf { result ≡ leaf_now (machine self.old) used.now }
+        ensures stays { machine self.new ≡ machine self.old };
+
+    /// The names of all translations that it has cached. It may answer out of memory.
+    fn names(&self, alloc: Global) -> Result<Vec<CachedName>, NoMemory>
+        ensures { IfOk result (λ v. v.items ≡ cached_names (machine self.now)) };
 
     /// The access to data in RAM that its next instruction makes, which does this beside. Nothing changes.
     fn access(&mut self, act: &Act) -> Option<MadeAccess>

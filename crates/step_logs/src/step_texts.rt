@@ -227,7 +227,7 @@ fn put_input<R: TryRunner, O: Sink>(
     }
 }
 
-// The bytes behind so many.
+// The bytes behind the first `many`.
 fn behind(bytes: &[u8], many: usize) -> &[u8]
     ensures { result.now ≡ drop many bytes.now }
 {

@@ -3,7 +3,7 @@
 use outside::{Sink, SinkFault};
 use std::alloc::Global;
 
-/// A sink that keeps its bytes, and takes so many and no more.
+/// A sink that keeps its bytes, and takes no more than its limit.
 #[derive(Drop)]
 pub struct ClosingSink {
     room: usize,

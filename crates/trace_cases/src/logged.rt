@@ -31,7 +31,7 @@ pub struct Asked<'f, 'a> {
 }
 
 impl Asked<'_, '_> {
-    /// Asks for it, on a stream that takes so many bytes.
+    /// Asks for it, on a stream that takes a number of bytes and no more.
     pub fn answer(&self, alloc: Global, room: usize) -> Result<Left, NoMemory> {
         let words = if self.script.wants_words {
             Err(NoMemory)

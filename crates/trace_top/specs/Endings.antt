@@ -1,14 +1,14 @@
 -- What the end of a log says.
-use Rattle.std.specs.Prelude.{◌≡◌, ◌≤◌, ◌⊎◌, ℕ, zero, suc, true, false, List, Option, length, codes}
+use Rattle.std.specs.Prelude.{◌≡◌, ◌≤◌, ℕ, true, false, List, Option, codes}
 use Rattle.command_line.specs.Commands.{Command}
 use Rattle.outside.specs.declared.sinks.Sink as sinks
 use Rattle.outside.specs.declared.stores.Store as stores
 use Rattle.outside.specs.Faults.{Rose}
 use Rattle.outside.specs.Files.{Files}
+use Rattle.guest_commands.specs.Ends.{IsCut}
 use Rattle.nesthv_top.specs.declared.ends.Ended.{Ended}
 use Rattle.nesthv_top.specs.declared.ends.Ended.TheVariants.{Done, WriteFault, NoMemory}
-use Rattle.nesthv_top.specs.Endings.{HasPlan, IfKnown, IfReadFault, IfWriteFault, WithPlan}
-use Rattle.nesthv_top.specs.Reads.{asks_of}
+use Rattle.nesthv_top.specs.Endings.{HasPlan, IfReadFault, IfWriteFault}
 use Rattle.trace_top.specs.declared.asked.Asked.{Asked}
 use Rattle.trace_top.specs.Tracing.{Logs}
 
@@ -22,13 +22,11 @@ pub record SaysOfFaults {X Y : Type 0} (S : stores.Ghosts X) (O : sinks.Ghosts Y
   pub write : IfWriteFault ended (Rose (O.faults out) (O.faults out'))
   pub count : O.faults out ≤ O.faults out'
 
--- the log where it was out of memory after that many reads: none had begun, or all files had been read
+-- the log where it was out of memory after that many reads
 abbrev pub IsCutLog : {O : Type 0} → sinks.Ghosts O → Option Files → Option Command → Option Asked → ℕ
     → O → O → Type 0
-IsCutLog K told command asked zero old new = new ≡ old
-IsCutLog K told command asked (suc n) old new = (new ≡ old)
-    ⊎ IfKnown told command (λ files. (suc n ≡ length (asks_of files command))
-    × WithPlan files command (λ command plan. Logs K plan command asked false old new))
+IsCutLog K told command asked n old new =
+    IsCut told command n (new ≡ old) (λ command plan. Logs K plan command asked false old new)
 
 -- the log at each end; nothing is put where none began
 abbrev pub SaysOfLog : {O : Type 0} → sinks.Ghosts O → Option Files → Option Command → Option Asked → Ended

@@ -1,5 +1,5 @@
 -- Whose run is logged, and from which step up to which.
-use Rattle.std.specs.Prelude.{◌≡◌, ◌≤◌, ℕ, ◌^◌, nat_le, Bool, false, List, [], ◌∷◌, Option, Some, None, length, take, if◌then◌else◌}
+use Rattle.std.specs.Prelude.{ℕ, ◌^◌, nat_le, Bool, List, [], ◌∷◌, Option, Some, None, length, take, if◌then◌else◌}
 use Rattle.command_line.specs.Commands.{Command, OnFiles, Save, bounded_number, command_of}
 use Rattle.guest_commands.specs.GuestWords.{saving_words}
 use Rattle.guest_turns.specs.Hosted.{machine_at}
@@ -31,11 +31,6 @@ last_step [] = Some most_steps
 last_step (from ∷ []) = Some most_steps
 last_step (from ∷ to ∷ words) = step_number to
 
--- kinds that are logged: uses of stale translations are not yet
-abbrev pub logged_kinds : Option Kinds → Option Kinds
-logged_kinds (Some kinds) = if kinds.stale then None else Some kinds
-logged_kinds None = None
-
 abbrev pub asked_with : Option Kinds → Option ℕ → Option ℕ → Option Asked
 asked_with (Some kinds) (Some from) (Some to) = Some (record { kinds = kinds; from = from; to = to })
 asked_with (Some kinds) (Some from) None = None
@@ -45,13 +40,8 @@ asked_with None from to = None
 -- what the words ask for: a program's name, CONFIG, GUEST, KIND[,KIND..], and FROM and TO, where they stand
 abbrev pub asked_in : List (List ℕ) → Option Asked
 asked_in (name ∷ config ∷ guest ∷ kinds ∷ words) = if nat_le (length words) 2
-    then asked_with (logged_kinds (kinds_of kinds)) (first_step words) (last_step words) else None
+    then asked_with (kinds_of kinds) (first_step words) (last_step words) else None
 asked_in words = None
-
--- what can be asked for
-pub record IsLoggable (asked : Asked) : Type 0 where
-  pub stale : asked.kinds.stale ≡ false
-  pub from : asked.from ≤ most_steps
 
 -- the words of the save of the same guest
 abbrev pub words_if : Option Asked → List (List ℕ) → List (List ℕ)

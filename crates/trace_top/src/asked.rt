@@ -1,8 +1,7 @@
 // What the words ask for beside the guest.
 
-ghost use Rattle.std.specs.Prelude.{◌≡◌, ◌≤◌, false, IfSome};
-ghost use Rattle.log_lines.specs.Kinds.{kinds_of};
-ghost use Rattle.trace_top.specs.Tracing.{asked_in, first_step, last_step, logged_kinds, most_steps, step_number, IsLoggable};
+ghost use Rattle.std.specs.Prelude.{◌≡◌, ◌≤◌, IfSome};
+ghost use Rattle.trace_top.specs.Tracing.{asked_in, first_step, last_step, most_steps, step_number};
 
 use command_line::number_of;
 use log_lines::{Kinds, kinds_of};
@@ -47,26 +46,14 @@ fn last_step(words: &[Word]) -> Option<u64>
     }
 }
 
-// The kinds of a word, of those that are logged.
-fn logged_kinds(word: &Word) -> Option<Kinds>
-    ensures kinds { result ≡ logged_kinds (kinds_of word.now) }
-    ensures stale { IfSome result (λ kinds. kinds.stale ≡ false) }
-{
-    let kinds = kinds_of(word.as_str().as_bytes())?;
-    if kinds.stale {
-        return None;
-    }
-    Some(kinds)
-}
-
 /// What words ask for, if they are words of this command.
 pub fn asked_in(words: &[Word]) -> Option<Asked>
     ensures asked { result ≡ asked_in words.now }
-    ensures within { IfSome result IsLoggable }
+    ensures few { IfSome result (λ asked. asked.from ≤ most_steps) }
 {
     match words {
         [_, _, _, kinds, steps @ ..] if steps.len() <= 2 => {
-            let kinds = logged_kinds(kinds)?;
+            let kinds = kinds_of(kinds.as_str().as_bytes())?;
             let from = first_step(steps)?;
             let to = last_step(steps)?;
             Some(Asked { kinds, from, to })

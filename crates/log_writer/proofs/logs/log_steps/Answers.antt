@@ -1,5 +1,6 @@
-use Rattle.std.proofs.Common.{arith, rules, ◌≡◌, ◌≢◌, ◌∙◌, ◌+◌, ◌-◌, ap, sym, subst, List, true, false}
+use Rattle.std.proofs.Common.{arith, rules, ◌≡◌, ◌≢◌, ◌∙◌, ◌+◌, ◌-◌, ◌≤◌, ap, sym, subst, List, true, false}
 use Rattle.std.specs.Prelude.{is_ok}
+use Rattle.caching_steps.proofs.Steps.{remembers_at_start}
 use Rattle.guest_settings.specs.declared.statuses.Status.TheVariants.{Running}
 use Rattle.log_lines.specs.declared.lines.Line.{Line}
 use Rattle.machine_defs.specs.Machine.{Machine}
@@ -9,6 +10,7 @@ use Rattle.run_log.specs.Seen.{seen_from}
 use Rattle.log_writer.proofs.Counting.{counts_start}
 use Rattle.log_writer.proofs.Idle.{all_left, counted_now, counts_idle, made_now, none_left, nothing_left, step_left}
 use Rattle.log_writer.proofs.Putting.{rest_front, rest_none, rest_stopped, rest_then}
+use Rattle.log_writer.proofs.StaleNotes.{remembered_on, uses_told}
 use Rattle.log_writer.proofs.logs.log_steps.Goals as goal
 
 pub loop-number-init : goal.loop-number-init
@@ -16,7 +18,8 @@ loop-number-init g c = record {
   machine = λ origin is. is;
   early = omega arith;
   counted = λ origin is. rw c.new-counts.ensures (counts_start origin c.args.from c.args.kinds.now.counts (c.args.from - c.args.from) (omega arith));
-  left = λ origin is new ok puts.
+  remembers = λ asked origin is orderly. rw c.new-stale.ensures (remembers_at_start origin c.args.from);
+  left = λ origin is orderly new ok puts.
       subst (λ (l : List Line). Puts g.O.Sink.stands_for c.args.out.now new ok (text_of_lines l)) (all_left c.args.kinds.now origin c.args.from c.args.steps) puts;
   count = omega arith;
 }
@@ -30,12 +33,12 @@ returns-then-ne-clause-counted g c = λ origin is.
     (λ going. idle (c.status.ensures ∙ ap (λ (m : Machine). m.platform.status) at ∙ going)) (c.loop-number.invariant.counted origin is)
 
 pub returns-then-ne-clause-bytes : goal.returns-then-ne-clause-bytes
-returns-then-ne-clause-bytes g c = λ origin is.
+returns-then-ne-clause-bytes g c = λ origin is orderly.
     let idle : c.status.result ≢ Running = search rules in
     let at = c.loop-number.invariant.machine origin is in
     rest_none g.O.Sink.stands_for c.args.out.now c.loop-number.out _ _
     (none_left c.args.kinds.now origin c.args.from c.loop-number.number (c.args.from + c.args.steps - c.loop-number.number)
-    (λ going. idle (c.status.ensures ∙ ap (λ (m : Machine). m.platform.status) at ∙ going))) (c.loop-number.invariant.left origin is)
+    (λ going. idle (c.status.ensures ∙ ap (λ (m : Machine). m.platform.status) at ∙ going))) (c.loop-number.invariant.left origin is orderly)
 
 pub log_step-requires : goal.log_step-requires
 log_step-requires g c =
@@ -45,41 +48,64 @@ log_step-requires g c =
         running = sym c.status.ensures ∙ going;
         early = omega (arith, c.loop-number.invariant.early, c.requires.early, c.requires.few, c.loop-number-test.true);
       };
-      stale = c.requires.stale;
     }
 
 pub returns-in_err-made-clause-bytes : goal.returns-in_err-made-clause-bytes
-returns-in_err-made-clause-bytes g c = λ origin is.
+returns-in_err-made-clause-bytes g c = λ origin is orderly.
     let going : c.status.result ≡ Running = search rules in
     let failed : is_ok c.from_residual.result ≡ false = search rules in
     let at = c.loop-number.invariant.machine origin is in
     let last = c.args.from + c.args.steps in
+    let begins : c.args.from ≤ c.loop-number.number = search rules in
     rw failed (rest_stopped g.O.Sink.stands_for c.args.out.now c.loop-number.out c.log_step.new.out _ _ _ _
     (step_left c.args.kinds.now origin c.args.from c.loop-number.number last c.loop-number-test.true
-    (ap (λ (m : Machine). m.platform.status) (sym at) ∙ sym c.status.ensures ∙ going)) (c.loop-number.invariant.left origin is)
+    (ap (λ (m : Machine). m.platform.status) (sym at) ∙ sym c.status.ensures ∙ going)) (c.loop-number.invariant.left origin is orderly)
     (subst (λ (m : Machine). Puts g.O.Sink.stands_for c.loop-number.out c.log_step.new.out false
     (text_of_lines (lines_of_step c.args.kinds.now origin c.args.from (seen_from c.loop-number.number m)))) at
-    (c.in_err-made.ensures.bytes origin c.args.from)))
+    (c.in_err-made.ensures.bytes origin c.args.from
+    (λ asked. uses_told origin (g.R.TryRunner.machine c.loop-number.runner) c.args.from c.loop-number.number c.loop-number.stale.steps at (orderly asked) begins
+    (sym c.status.ensures ∙ going) (c.loop-number.invariant.remembers asked origin is (orderly asked))))))
 
 pub returns-in_err-count_step-clause-bytes : goal.returns-in_err-count_step-clause-bytes
-returns-in_err-count_step-clause-bytes g c = λ origin is.
+returns-in_err-count_step-clause-bytes g c = λ origin is orderly.
     let going : c.status.result ≡ Running = search rules in
     let failed : is_ok c.from_residual-in_err-count_step.result ≡ false = search rules in
     let at = c.loop-number.invariant.machine origin is in
     let last = c.args.from + c.args.steps in
+    let begins : c.args.from ≤ c.loop-number.number = search rules in
     rw failed (rest_front g.O.Sink.stands_for c.args.out.now c.log_step.new.out _ _
     (rest_then g.O.Sink.stands_for c.args.out.now c.loop-number.out c.log_step.new.out _ _ _ _
     (step_left c.args.kinds.now origin c.args.from c.loop-number.number last c.loop-number-test.true
-    (ap (λ (m : Machine). m.platform.status) (sym at) ∙ sym c.status.ensures ∙ going)) (c.loop-number.invariant.left origin is)
+    (ap (λ (m : Machine). m.platform.status) (sym at) ∙ sym c.status.ensures ∙ going)) (c.loop-number.invariant.left origin is orderly)
     (subst (λ (m : Machine). Puts g.O.Sink.stands_for c.loop-number.out c.log_step.new.out true
     (text_of_lines (lines_of_step c.args.kinds.now origin c.args.from (seen_from c.loop-number.number m)))) at
-    (c.in_ok-made.ensures.bytes origin c.args.from))))
+    (c.in_ok-made.ensures.bytes origin c.args.from
+    (λ asked. uses_told origin (g.R.TryRunner.machine c.loop-number.runner) c.args.from c.loop-number.number c.loop-number.stale.steps at (orderly asked) begins
+    (sym c.status.ensures ∙ going) (c.loop-number.invariant.remembers asked origin is (orderly asked)))))))
+
+pub returns-in_err-renew_if-clause-bytes : goal.returns-in_err-renew_if-clause-bytes
+returns-in_err-renew_if-clause-bytes g c = λ origin is orderly.
+    let going : c.status.result ≡ Running = search rules in
+    let failed : is_ok c.from_residual-in_err-renew_if.result ≡ false = search rules in
+    let at = c.loop-number.invariant.machine origin is in
+    let last = c.args.from + c.args.steps in
+    let begins : c.args.from ≤ c.loop-number.number = search rules in
+    rw failed (rest_front g.O.Sink.stands_for c.args.out.now c.log_step.new.out _ _
+    (rest_then g.O.Sink.stands_for c.args.out.now c.loop-number.out c.log_step.new.out _ _ _ _
+    (step_left c.args.kinds.now origin c.args.from c.loop-number.number last c.loop-number-test.true
+    (ap (λ (m : Machine). m.platform.status) (sym at) ∙ sym c.status.ensures ∙ going)) (c.loop-number.invariant.left origin is orderly)
+    (subst (λ (m : Machine). Puts g.O.Sink.stands_for c.loop-number.out c.log_step.new.out true
+    (text_of_lines (lines_of_step c.args.kinds.now origin c.args.from (seen_from c.loop-number.number m)))) at
+    (c.in_ok-made.ensures.bytes origin c.args.from
+    (λ asked. uses_told origin (g.R.TryRunner.machine c.loop-number.runner) c.args.from c.loop-number.number c.loop-number.stale.steps at (orderly asked) begins
+    (sym c.status.ensures ∙ going) (c.loop-number.invariant.remembers asked origin is (orderly asked)))))))
 
 pub loop-number-preserved : goal.loop-number-preserved
 loop-number-preserved g c =
     let going : c.status.result ≡ Running = search rules in
     let made = c.in_ok-made.ensures.made in
     let last = c.args.from + c.args.steps in
+    let begins : c.args.from ≤ c.loop-number.number = search rules in
     record {
       machine = λ origin is.
           made_now origin (g.R.TryRunner.machine c.loop-number.runner) (g.R.TryRunner.machine c.log_step.new.runner) c.loop-number.number
@@ -90,14 +116,22 @@ loop-number-preserved g c =
           c.count_step.new.counts c.in_ok-made.made.before c.in_ok-made.made.event (search rules) (c.loop-number.invariant.machine origin is) made.before made.events
           (c.in_ok-count_step.ensures origin c.args.from (c.loop-number.number - c.args.from) (omega (arith, c.requires.few, c.loop-number-test.true)))
           (c.loop-number.invariant.counted origin is);
-      left = λ origin is.
+      remembers = λ asked origin is orderly.
+          let at = c.loop-number.invariant.machine origin is in
+          c.in_ok-renew_if.ensures origin c.args.from (c.loop-number.number + 1)
+          (made_now origin (g.R.TryRunner.machine c.loop-number.runner) (g.R.TryRunner.machine c.log_step.new.runner) c.loop-number.number at made.after)
+          (remembered_on origin (g.R.TryRunner.machine c.loop-number.runner) c.args.from c.loop-number.number c.loop-number.stale.steps at orderly begins
+          (sym c.status.ensures ∙ going) (c.loop-number.invariant.remembers asked origin is orderly) c.log_step.new.stale.steps (c.in_ok-made.ensures.noted asked));
+      left = λ origin is orderly.
           let at = c.loop-number.invariant.machine origin is in
           rest_then g.O.Sink.stands_for c.args.out.now c.loop-number.out c.log_step.new.out _ _ _ _
           (step_left c.args.kinds.now origin c.args.from c.loop-number.number last c.loop-number-test.true
-          (ap (λ (m : Machine). m.platform.status) (sym at) ∙ sym c.status.ensures ∙ going)) (c.loop-number.invariant.left origin is)
+          (ap (λ (m : Machine). m.platform.status) (sym at) ∙ sym c.status.ensures ∙ going)) (c.loop-number.invariant.left origin is orderly)
           (subst (λ (m : Machine). Puts g.O.Sink.stands_for c.loop-number.out c.log_step.new.out true
           (text_of_lines (lines_of_step c.args.kinds.now origin c.args.from (seen_from c.loop-number.number m)))) at
-          (c.in_ok-made.ensures.bytes origin c.args.from));
+          (c.in_ok-made.ensures.bytes origin c.args.from
+          (λ asked. uses_told origin (g.R.TryRunner.machine c.loop-number.runner) c.args.from c.loop-number.number c.loop-number.stale.steps at (orderly asked) begins
+          (sym c.status.ensures ∙ going) (c.loop-number.invariant.remembers asked origin is (orderly asked)))));
       count = omega (arith, c.loop-number.invariant.count, c.log_step.ensures.count);
     }
 
@@ -107,7 +141,7 @@ returns-clause-counted g c = λ origin is.
     rw all at (c.loop-number.invariant.counted origin is)
 
 pub returns-clause-bytes : goal.returns-clause-bytes
-returns-clause-bytes g c = λ origin is.
+returns-clause-bytes g c = λ origin is orderly.
     rest_none g.O.Sink.stands_for c.args.out.now c.loop-number.out _ _
     (nothing_left c.args.kinds.now origin c.args.from c.loop-number.number (c.args.from + c.args.steps) (omega (arith, c.loop-number-test.false)))
-    (c.loop-number.invariant.left origin is)
+    (c.loop-number.invariant.left origin is orderly)

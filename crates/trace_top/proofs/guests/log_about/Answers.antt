@@ -1,5 +1,4 @@
-use Rattle.std.proofs.Common.{◌≡◌, ◌∙◌, ap, sym, arith}
-use Rattle.guest_turns.specs.TurnLists.{own_steps}
+use Rattle.std.proofs.Common.{◌≡◌, ◌∙◌, sym, arith}
 use Rattle.run_log.specs.Log.{steps_between}
 use Rattle.trace_top.proofs.Logged.{logs_nothing}
 use Rattle.trace_top.proofs.guests.log_about.Goals as goal
@@ -7,6 +6,4 @@ use Rattle.trace_top.proofs.guests.log_about.Goals as goal
 pub returns-then-steps-eq0-clause-log : goal.returns-then-steps-eq0-clause-log
 returns-then-steps-eq0-clause-log g c =
     let none : c.steps_between-steps.result ≡ 0 = grind (arith, c.if-steps-eq0.true) in
-    let between : steps_between c.args.asked.now.from c.args.asked.now.to (own_steps c.args.guest c.args.job.config.turns) ≡ 0 =
-    ap (λ n. steps_between c.args.asked.now.from c.args.asked.now.to n) (sym c.lone_guest-source.ensures.steps) ∙ sym c.steps_between-steps.ensures ∙ none in
-    logs_nothing c.args.asked.now.kinds _ c.args.asked.now.from g.O.Sink _ c.args.out.now between
+    logs_nothing c.args.asked.now.kinds _ c.args.asked.now.from g.O.Sink _ c.args.out.now (sym c.steps_between-steps.ensures ∙ none)

@@ -1,7 +1,9 @@
-use Rattle.std.proofs.Common.{arith}
-use Rattle.guest_commands.proofs.GuestWords.{none_read}
+use Rattle.std.proofs.Common.{sym}
+use Rattle.command_line.specs.Commands.{OnFiles}
+use Rattle.guest_commands.specs.GuestWords.{guest_command, saving_words}
+use Rattle.nesthv_top.proofs.Telling.{is_for}
 use Rattle.trace_top.proofs.tracing.write_log.Goals as goal
 
-pub returns-then-not-are_plain-clause-reads : goal.returns-then-not-are_plain-clause-reads
-returns-then-not-are_plain-clause-reads g c =
-    none_read g.S.Store c.args.words.items c.args.store.now (grind (arith, c.are_plain.ensures, c.as_slice.ensures.value))
+pub returns-in-Some-clause-words : goal.returns-in-Some-clause-words
+returns-in-Some-clause-words g c =
+    is_for (saving_words c.args.words.now) (OnFiles (guest_command c.in-Some.request)) c.answer.result (sym (rw c.in-Some.is at c.guest_request.ensures)) c.answer.ensures.command
