@@ -6,17 +6,23 @@ mod faults;
 mod files;
 mod script;
 mod sink;
+mod states;
 mod store;
 mod suite;
 mod terms;
 mod text;
+mod values;
 
 pub use configuration::{Configuration, Turns};
 pub use faults::{Fault, told_fault};
 pub use files::Files;
 pub use script::{Script, StoreScript, StreamScript};
 pub use sink::ScriptedSink;
+pub use states::{are_same, tell_memory, tell_places, tell_values};
 pub use store::ScriptedStore;
 pub use suite::{Block, Suite};
 pub use terms::{Names, number, words_in};
 pub use text::{push_lines, push_shown, push_unescaped, quoted};
+pub use values::{
+    Doubleword, Value, place_in, push_doublewords, push_values, two_values_in, value_in,
+};

@@ -2,11 +2,9 @@
 
 ghost use Rattle.std.specs.Prelude.{◌≡◌, ◌⊎◌};
 
-use crate::values::{
-    Doubleword, Value, push_doublewords, push_values, reservation_in, set_values, value_in,
-};
+use crate::values::{reservation_in, set_values};
 use arch_defs::{Mode, Virtual};
-use case_files::{Fault, Names};
+use case_files::{Doubleword, Fault, Names, Value, push_doublewords, push_values, value_in};
 use rv64_hart::{Hart, PhysMem};
 use std::alloc::Global;
 use test_programs::words;

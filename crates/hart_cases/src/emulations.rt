@@ -1,13 +1,12 @@
-// Instructions that the host makes in a guest's place, one behind another on one memory: HLV, HLVX and HSV with
+// Instructions that the host makes in a guest's place, one after another on one memory: HLV, HLVX, HSV with
 // their accesses, and those on which the mode decides up to an access.
 
-use crate::differences::{are_same, tell_memory, tell_values};
 use crate::endings::{push_trap, trap_in};
 use crate::row::Row;
-use crate::values::{Value, push_values, set_values};
+use crate::values::set_values;
 use crate::wanted::wanted_in;
 use arch_defs::{Fence, Virtual};
-use case_files::{Fault, Names};
+use case_files::{Fault, Names, Value, are_same, push_values, tell_memory, tell_values};
 use console_dev::Console;
 use hcsr_emulation::{Accessed, Emulated, emulate, is_decided};
 use no_memory::NoMemory;
@@ -34,7 +33,7 @@ pub struct Emulation<'a> {
     line: &'a str,
     op: Op,
     given: Vec<Value<'a>>,
-    /// None where it is no instruction of its maker.
+    /// None where it is not an instruction of its maker.
     end: Option<Emulated>,
     values: Vec<Value<'a>>,
 }
@@ -112,19 +111,26 @@ fn op_in(alloc: Global, line: &str) -> Result<Op, Fault> {
 /// Tells the first instruction of a row that differs, or what memory has behind the last.
 pub fn tell_emulations(row: &Row<'_>, text: &mut String) -> Result<bool, Fault> {
     let mut memory = row.beginning.memory(None)?;
-    let mut console = Console::new(row.alloc, 0, Vec::new(row.alloc))?;
+    let mut console = row.device.console()?;
+    let has_page = row.device.is_there;
     for wanted in row.emulations.as_slice() {
         let before = row.beginning.state_with(wanted.given.as_slice());
         let mut state = before;
         let end = match wanted.maker {
-            Maker::WithAccess => accessed(&mut memory, &mut state, wanted.op, &mut console),
+            Maker::WithAccess => accessed(
+                &mut memory,
+                &mut state,
+                wanted.op,
+                has_page,
+                &mut console,
+            ),
             Maker::UpToAccess => emulated(&mut state, wanted.op),
         };
         if tell_emulation(wanted, &before, end, &state, text)? {
             return Ok(true);
         }
     }
-    Ok(tell_memory(row.memory.as_slice(), &memory, text)?)
+    Ok(tell_memory(row.memory.as_slice(), &memory, text)? || row.device.tell(&console, text)?)
 }
 
 // What an HLV, HLVX or HSV comes to, or none where the instruction is not one of these.
@@ -132,6 +138,7 @@ fn accessed(
     memory: &mut PhysMem,
     state: &mut Virtual,
     op: Op,
+    has_page: bool,
     console: &mut Console,
 ) -> Option<Emulated> {
     if !fits(&op) {
@@ -139,7 +146,7 @@ fn accessed(
     }
     match op {
         Op::GuestLoad { .. } | Op::GuestFetch { .. } | Op::GuestStore { .. } => {
-            match hlv_hsv::access(memory, state, op, false, console) {
+            match hlv_hsv::access(memory, state, op, has_page, console) {
                 hlv_hsv::Accessed::Done => Some(Emulated::Done),
                 hlv_hsv::Accessed::Raise(trap) => Some(Emulated::Raise(trap)),
             }

@@ -1,8 +1,7 @@
 // How a run ends.
 
-use crate::values::value_in;
 use arch_defs::Trap;
-use case_files::{Fault, Names};
+use case_files::{Fault, Names, value_in};
 use no_memory::NoMemory;
 use rv64_hart::{Stop, Why};
 use std::alloc::Global;

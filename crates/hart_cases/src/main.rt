@@ -3,6 +3,7 @@
 #![tactic(auto)]
 
 mod beginning;
+mod devices;
 mod differences;
 mod emulations;
 mod endings;

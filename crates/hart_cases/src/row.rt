@@ -1,14 +1,15 @@
 // A row: what a run begins with, the runs that are made of it, and what they leave.
 
 use crate::beginning::Beginning;
+use crate::devices::Device;
 use crate::emulations::{Emulation, Maker, emulation_in};
 use crate::endings::stop_in;
 use crate::translations::{Translation, translation_in};
-use crate::values::{
-    Doubleword, Value, place_in, push_doublewords, push_values, reservation_in, value_in,
-};
+use crate::values::reservation_in;
 use crate::wanted::wanted_in;
-use case_files::{Fault, Names};
+use case_files::{
+    Doubleword, Fault, Names, Value, place_in, push_doublewords, push_values, value_in,
+};
 use op_defs::DataAccess;
 use rv64_hart::Stop;
 use std::alloc::Global;
@@ -29,6 +30,7 @@ pub struct Run<'a> {
 pub struct Row<'a> {
     pub alloc: Global,
     pub beginning: Beginning<'a>,
+    pub device: Device,
     /// How many steps are made at most.
     pub limit: u64,
     /// Whether a run ends behind a trap into VS.
@@ -57,6 +59,7 @@ impl<'a> Row<'a> {
         Row {
             alloc,
             beginning: Beginning::new(alloc),
+            device: Device::new(alloc),
             limit,
             is_watched: false,
             is_stepwise: false,
@@ -80,6 +83,7 @@ impl<'a> Row<'a> {
         }
         let (word, rest) = line.split_once(' ').unwrap_or((line, ""));
         if self.beginning.obey(names, word, rest)?
+            || self.device.obey(names, word, rest)?
             || self.obeys(names, word, rest)?
             || self.leaves(names, word, rest)?
         {

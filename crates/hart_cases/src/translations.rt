@@ -2,9 +2,8 @@
 
 use crate::endings::{push_trap, trap_in};
 use crate::row::Row;
-use crate::values::value_in;
 use arch_defs::{Access, Mode, Trap};
-use case_files::{Fault, Names};
+use case_files::{Fault, Names, value_in};
 use std::alloc::Global;
 use two_stage_walk::translate;
 

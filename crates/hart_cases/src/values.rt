@@ -1,33 +1,9 @@
-// Values in a row: numbers by their names, and values at places of a state and of memory.
+// Values in a row: reservations, and values that a state gets.
 
 use arch_defs::Virtual;
-use case_files::{Fault, Names};
+use case_files::{Fault, Names, Value, value_in};
 use std::alloc::Global;
-use test_programs::places::{At, place_of, set_all};
-
-/// A value at a place of a state, which has this name.
-#[derive(Clone, Copy)]
-pub struct Value<'a> {
-    pub name: &'a str,
-    pub at: At,
-    pub value: u64,
-}
-
-/// A doubleword at a place of memory.
-#[derive(Clone, Copy)]
-pub struct Doubleword {
-    pub at: u64,
-    pub value: u64,
-}
-
-/// The one value of a term.
-pub fn value_in(alloc: Global, names: &Names<'_>, term: &str) -> Result<u64, Fault> {
-    let values = names.values(alloc, term)?;
-    match values.as_slice() {
-        [value] => Ok(*value),
-        _ => Err(Fault::Line),
-    }
-}
+use test_programs::places::set_all;
 
 /// The reservation that `PLACE BYTES` says.
 pub fn reservation_in(alloc: Global, names: &Names<'_>, text: &str) -> Result<(u64, u8), Fault> {
@@ -37,61 +13,10 @@ pub fn reservation_in(alloc: Global, names: &Names<'_>, text: &str) -> Result<(u
     Ok((place, bytes.ok_or(Fault::Line)?))
 }
 
-/// The place of a state that has this name.
-pub fn place_in(name: &str) -> Result<At, Fault> {
-    place_of(name).ok_or(Fault::Line)
-}
-
-/// Appends what `PLACE TERM PLACE TERM ..` says of a state.
-pub fn push_values<'a>(
-    values: &mut Vec<Value<'a>>,
-    names: &Names<'_>,
-    text: &'a str,
-) -> Result<(), Fault> {
-    let alloc = *values.allocator();
-    let mut named = None;
-    for word in text.split_whitespace() {
-        named = match named {
-            None => Some((word, place_in(word)?)),
-            Some((name, at)) => {
-                let value = value_in(alloc, names, word)?;
-                values.push(Value { name, at, value })?;
-                None
-            }
-        };
-    }
-    if named.is_some() {
-        return Err(Fault::Line);
-    }
-    Ok(())
-}
-
 /// Sets these values in a state.
 pub fn set_values(state: &mut Virtual, values: &[Value<'_>]) {
     for value in values {
         let values = [(value.at, value.value)];
         set_all(&mut state.regs, &mut state.csrs, &mut state.mode, &values);
     }
-}
-
-/// Appends what `TERM TERM ..` says of memory: a place, its doubleword, and so on.
-pub fn push_doublewords(
-    doublewords: &mut Vec<Doubleword>,
-    names: &Names<'_>,
-    terms: &str,
-) -> Result<(), Fault> {
-    let mut place = None;
-    for value in names.values(*doublewords.allocator(), terms)? {
-        place = match place {
-            None => Some(value),
-            Some(at) => {
-                doublewords.push(Doubleword { at, value })?;
-                None
-            }
-        };
-    }
-    if place.is_some() {
-        return Err(Fault::Line);
-    }
-    Ok(())
 }

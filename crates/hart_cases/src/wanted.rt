@@ -1,8 +1,7 @@
 // What access to data an instruction wants.
 
-use crate::values::{place_in, value_in};
 use arch_defs::{Reg, Width};
-use case_files::{Fault, Names};
+use case_files::{Fault, Names, place_in, value_in};
 use op_defs::{AmoOp, DataAccess, Purpose};
 use std::alloc::Global;
 use test_programs::places::At;

@@ -1,7 +1,7 @@
 // Sets of frames on small numbers, and on the last ones. The marks of two frames are the same where the
 // frames are alike in their low twelve bits, and their bits where they are alike in the low six.
 
-use frame_set::FrameSet;
+use translation_buffer::FrameSet;
 
 enum Step {
     Add(u64),

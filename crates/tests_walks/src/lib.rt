@@ -6,8 +6,6 @@ mod accesses;
 #[cfg(test)]
 mod buffers;
 #[cfg(test)]
-mod device_pages;
-#[cfg(test)]
 mod execute_only_pages;
 #[cfg(test)]
 mod forms;
