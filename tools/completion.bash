@@ -84,12 +84,12 @@ _nesthv_debug() {
 }
 
 _nesthv_profile() {
-    case $3 in --from | --to | --steps | --blocks | --spaces | --entries | --console) return ;; esac
+    case $3 in --columns | --from | --to | --steps | --blocks | --spaces | --entries | --console) return ;; esac
     if [[ $3 == *.toml ]] && [[ $2 != -* ]]; then
         mapfile -t COMPREPLY < <(compgen -W "$(_nesthv_guests "$3")" -- "$2")
     else
-        _nesthv_files "--callgrind --lcov --exits --timeline --svg --from --to --no-modes --log --trace --hs --vs
-            $_nesthv_image" "$2"
+        _nesthv_files "--callgrind --functions --lcov --exits --timeline --svg --columns --from --to --no-modes
+            --log --trace --hs --vs $_nesthv_image" "$2"
     fi
 }
 
@@ -103,7 +103,7 @@ _nesthv_gdb() {
 }
 
 _nesthv_trace() {
-    local kinds='traps worlds calls fences fills steps counts' before=
+    local kinds='traps worlds calls fences fills stale steps counts' before=
     if [ "$COMP_CWORD" -lt 3 ]; then
         _nesthv_gdb "$@"
     elif [ "$COMP_CWORD" -eq 3 ]; then
@@ -113,7 +113,7 @@ _nesthv_trace() {
 }
 
 _nesthv_look() {
-    local commands='at walk maps first trace traps first-trap last-trap entered diff fences' word command=
+    local commands='at walk maps first trace traps first-trap last-trap entered diff fences doctor' word command=
     case $3 in
     --as) mapfile -t COMPREPLY < <(compgen -W 'HS U VS VU' -- "$2") && return ;;
     --step) mapfile -t COMPREPLY < <(compgen -W 'end' -- "$2") && return ;;
@@ -123,7 +123,7 @@ _nesthv_look() {
     status) mapfile -t COMPREPLY < <(compgen -W 'waiting stopped' -- "$2") && return ;;
     esac
     if [[ $2 == -* ]]; then
-        _nesthv_words "--as --step --svg --most --elf --json --program --cache --cache-size
+        _nesthv_words "--as --step --svg --most --first --elf --json --program --cache --cache-size
             $_nesthv_image" "$2"
         return
     fi

@@ -17,7 +17,7 @@ nesthv) _arguments "1:command:(run replay check work save)" "2:configuration:_fi
 nesthv-gdb) _arguments "1:configuration:_files -g '*.toml'" "2:guest:" ;;
 nesthv-trace)
     _arguments "1:configuration:_files -g '*.toml'" "2:guest:" \
-        '3:kinds:_values -s , kind traps worlds calls fences fills steps counts' '4:first step:' '5:last step:'
+        '3:kinds:_values -s , kind traps worlds calls fences fills stale steps counts' '4:first step:' '5:last step:'
     ;;
 nesthv-run)
     _arguments '--help[say what it does]' \
@@ -40,13 +40,14 @@ nesthv-look)
         '--step[the state]:word:(end)' \
         '--svg[draw maps into this file]:file:_files' \
         '--most[at how many entries fences drops]:word:' \
+        '--first[end fences with the first finding]' \
         '--elf[one more ELF file with symbols]:file:_files' \
         '--json[print JSON]' \
         '--program[the program to take]:file:_files' \
         '--cache[where states are kept]:folder:_files -/' \
         '--cache-size[MiB of kept states]:word:' \
         "${image[@]}" \
-        '1:configuration:_files' '*:word:(at walk maps first trace traps first-trap last-trap entered diff fences)'
+        '1:configuration:_files' '*:word:(at walk maps first trace traps first-trap last-trap entered diff fences doctor)'
     ;;
 nesthv-debug)
     _arguments '--help[say what it does]' \
@@ -59,10 +60,12 @@ nesthv-debug)
 nesthv-profile)
     _arguments '--help[say what it does]' \
         '--callgrind[write a profile for callgrind_annotate]:file:_files' \
+        '--functions[draw the functions that made most]:file:_files' \
         '--lcov[write coverage for genhtml]:file:_files' \
         '--exits[print a table of exits]' \
         '--timeline[write a timeline for Perfetto]:file:_files' \
         '--svg[draw the timeline into this file]:file:_files' \
+        '--columns[how many columns the drawing has at most]:number:' \
         '--from[the first step]:number:' \
         '--to[the step behind the last]:number:' \
         '--no-modes[do not tell VS from VU]' \

@@ -8,7 +8,7 @@ import shutil
 import subprocess
 import tempfile
 from collections.abc import Iterable, Iterator
-from typing import IO, NamedTuple
+from typing import NamedTuple
 
 from nesthv_tools import code_paths, elf_images, symbols
 
@@ -93,7 +93,7 @@ class Code:
             raise Failed(f"{name} cannot read {self.path}: its status is {status}")
         return {address: made.get(address) or (self.frame_of(address, "", "??:0"),) for address in wanted}
 
-    def read(self, output: IO[str]) -> Iterator[tuple[int, Frames]]:
+    def read(self, output: Iterable[str]) -> Iterator[tuple[int, Frames]]:
         """The addresses and places that addr2line tells: the address, and then two lines for each place."""
         address = -1
         frames: list[Frame] = []

@@ -24,7 +24,7 @@ FORMS = {
             f"(?: gpa (?P<gpa>{OPTIONAL}) gva [01] htinst (?P<htinst>{HEX}))?",
     "enter": f"hgatp (?P<hgatp>{HEX}) vsatp {HEX}",
     "leave": f"hgatp (?P<hgatp>{HEX}) vsatp {HEX} {CAUSE}",
-    "call": f"number {DECIMAL} a0 {HEX} answer {OPTIONAL}",
+    "call": f"number (?P<call>{DECIMAL}) a0 (?P<argument>{HEX}) answer {OPTIONAL}",
     "put": "[0-9a-f]{1,2}",
     "got": "(?P<byte>[0-9a-f]{1,2})",
     "wait": f"until (?:never|{DECIMAL})",
@@ -93,12 +93,43 @@ def words_of_guest(hgatp: int) -> str:
         return f"hgatp {hgatp:x}"
 
 
-class Log:
-    """The lines of a log, which are read once. Of steps of one mode, between which there is no other line,
-    there are the first and the last alone."""
+class Access(NamedTuple):
+    """What a step read or wrote in RAM: the physical address, how many bytes, and the value."""
+    place: int
+    width: int
+    value: int
 
-    def __init__(self, file: BinaryIO, name: str) -> None:
-        self.file, self.name, self.number = file, name, 0
+
+class Step(NamedTuple):
+    """What the line of a step has: the word of its instruction, or none; the registers that have other values
+    behind it; and what it read and wrote."""
+    word: int | None
+    written: list[tuple[str, int]]
+    read: Access | None
+    stored: Access | None
+
+
+def step_of(line: Line) -> Step:
+    """What the line of a step has."""
+    word, *rest = line.found[0].split()[4:]
+    accesses: dict[bytes, Access] = {}
+    for name in (b"write", b"read"):
+        if name in rest:
+            at = rest.index(name)
+            place, width, value = rest[at + 1:at + 4]
+            accesses[name] = Access(int(place, 16), int(width), int(value, 16))
+            del rest[at:at + 4]
+    written = [(name.decode(), int(value, 16)) for name, value in zip(rest[::2], rest[1::2])]
+    made = None if word == b"-" else int(word, 16)
+    return Step(made, written, accesses.get(b"read"), accesses.get(b"write"))
+
+
+class Log:
+    """The lines of a log, which are read once. Unless all are wanted, of steps of one mode, between which
+    there is no other line, there are the first and the last alone."""
+
+    def __init__(self, file: BinaryIO, name: str, has_all: bool = False) -> None:
+        self.file, self.name, self.has_all, self.number = file, name, has_all, 0
         self.step = 0  # of the line before
         self.counted: tuple[int, int, int] | None = None  # the place of the count before
 
@@ -120,6 +151,15 @@ class Log:
                 raise self.wrong(why_no_line(rest))
             raise Cut(f"{self.name} ends within line {self.number}")
 
+    def found(self, form: re.Pattern[bytes]) -> Iterator[re.Match[bytes]]:
+        """Where a form of whole lines is found in the log, which is not tested otherwise."""
+        rest = b""
+        for data in iter(lambda: self.file.read(AT_ONCE), b""):
+            data = rest + data
+            end = data.rfind(b"\n") + 1
+            yield from form.finditer(data, 0, end)
+            rest = data[end:]
+
     def lines_in(self, data: bytes, end: int) -> Iterator[Line]:
         """The lines of data up to `end`, which is behind a line feed."""
         at = 0
@@ -127,7 +167,8 @@ class Log:
             self.number += 1
             until = data.find(b"\n", at) + 1
             yield self.line_of(data[at:until])
-            steps = STEPS.match(data, at, end) if data.startswith(b"step ", at) else None
+            is_skipped = not self.has_all and data.startswith(b"step ", at)
+            steps = STEPS.match(data, at, end) if is_skipped else None
             if steps and steps.end() > until:
                 self.number += data.count(b"\n", until, steps.end())
                 until = steps.end()

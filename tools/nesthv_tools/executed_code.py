@@ -9,7 +9,7 @@ from nesthv_tools.event_logs import Line
 
 KINDS = ("counts",)  # of lines that are needed
 NESTED = ("VS", "VU")
-MOST_LOST, MOST_LOST_OF = 2, 50  # instructions without one behind them: these, and one of so many
+MOST_LOST, MOST_LOST_OF = 2, 50  # instructions that may lack one behind them: 2, and one in 50
 
 Costs = list[int]  # how many instructions, by mode
 

@@ -64,7 +64,7 @@ def share(part: int, whole: int) -> str:
 
 
 def cells_of(found: Cause, exits: int, steps: int) -> tuple[str, ...]:
-    """The cells of a row, where there are so many exits and steps in all."""
+    """The cells of a row, of these numbers of exits and steps in all."""
     front = f"{found.exits:,}", share(found.exits, exits), f"{found.steps:,}", share(found.steps, steps)
     if not found.returns:
         return *front, "-", "-", "-"

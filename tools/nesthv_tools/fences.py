@@ -2,15 +2,19 @@
 machine to drop cached translations at any time. So where a run from which they were dropped ends in another
 report, both are runs that the standard permits, and the guest's fences do not decide between them.
 
-Where a guest enters V = 1, those for V = 1 are dropped: of the second stage, and of the first under vsatp.
-Those of satp are dropped behind each trap that HS takes from itself or from U, and, since a kernel may have
-few traps, at some steps evenly: at each where the run is short.
+Where nesthv-trace tells which steps use a stale translation, those for V = 1, or those of satp, are dropped
+before such a use alone: at the entry into V = 1 before it, or if it was cached later, where it is used.
+
+Else they are dropped wherever there are some. Where a guest enters V = 1, those for V = 1 are dropped: of the
+second stage, and of the first under vsatp. Those of satp are dropped behind each trap that HS takes from
+itself or from U, and, since a kernel may have few traps, at some steps evenly: at each where the run is
+short.
 
 A long run has too many of these places. There all are dropped at some steps evenly, all in one run, and only
 where its report is another one is it found which drop changes it.
 """
 import itertools
-from collections.abc import Iterator
+from collections.abc import Iterable, Iterator
 from typing import Any
 
 from nesthv_tools import (
@@ -238,25 +242,55 @@ def lines_of(value: dict[str, Any]) -> list[str]:
     return lines
 
 
-class Search:
-    """Drops cached translations behind a step, up to a second one, wherever there are some to drop, one
-    drop at a time and at most `most` of them, where that is not 0. Counts the drops, and those that change
-    the report. `cut` is the step of the first one that is left out, or none. Where the run is long and `most`
-    is 0, `is_swept` says that the drops are made in one run first, and `together` has what it changes of the
-    report, where none of the drops alone changes it."""
+def stale_places(runs: guest_runs.Runs, start: int, end: int) -> Iterator[tuple[int, bool]]:
+    """Steps at which a drop changes by what the run goes on: those for V = 1, or those of satp."""
+    entered = -1
+    for line in runs.logged(["worlds", "stale"], runs.first, end):
+        if line.kind == "enter":
+            entered = line.step + 1
+        elif line.kind == "stale" and line.step >= start:
+            since = line.word("since")
+            is_held = since == "before" or runs.first + int(since) < entered
+            yield (entered if line.is_nested() and is_held else line.step), not line.is_nested()
 
-    def __init__(self, session: Session, start: int, end: int, most: int) -> None:
+
+def evenly(places: Iterable[tuple[int, bool]], most: int) -> list[tuple[int, bool]]:
+    """At most `most` of these places, evenly."""
+    kept, stride = list[tuple[int, bool]](), 1
+    for number, place in enumerate(places):
+        if number % stride == 0:
+            kept.append(place)
+        if len(kept) > most:
+            kept, stride = kept[::2], 2 * stride
+    return kept
+
+
+class Search:
+    """Drops cached translations behind a step, up to a second one, one drop at a time and at most `most` of
+    them, where that is not 0: `total` where stale translations are used, if the program tells that, else
+    wherever there are some to drop. Counts the drops, and those that change the report. `cut` is the step of
+    the first one that is left out, or none. Where the run is long, the program does not tell, and `most` is
+    0, `is_swept` says that the drops are made in one run first, and `together` has what it changes of the
+    report, where none of the drops alone changes it. With `is_spread` the places are at most
+    `most` events and as many other steps, evenly, and none is left out."""
+
+    def __init__(self, session: Session, start: int, end: int, most: int, is_spread: bool = False) -> None:
         self.session, self.start, self.end, self.most = session, start, end, most
+        self.is_spread = is_spread
         self.count = 0
         self.changing: list[int] = []
         self.found: dict[int | None, dict[str, Any]] = {}
         self.cut: int | None = None
-        self.is_swept = most == 0 and end - start > LONG
+        self.tells_stale = session.runs.tells("stale")
+        self.is_swept = not self.tells_stale and most == 0 and end - start > LONG
         self.together: list[str] = []
+        self.total: int | None = None
         session.doing = self.progress
 
     def progress(self, low: int, high: int) -> str:
-        return f"{self.shown()} the report so far"
+        made = f"now at step {low:,} of {high:,}" if self.total is None else \
+            f"{self.count} of {self.total} made"
+        return f"{self.shown()} the report so far, {made}"
 
     def shown(self) -> str:
         """How many drops change, of how many, with the verb."""
@@ -266,18 +300,38 @@ class Search:
 
     def drops(self) -> Iterator[Drop]:
         runs, made = self.session.runs, set[tuple[int, bool]]()
-        places = [self.places()] + ([self.even_places()] if runs.start.has_first() else [])
-        for place in itertools.chain(*places):
+        for place in self.places():
             drop = Drop(runs, *place)
             if drop.is_empty or place in made:
                 continue
-            if len(made) == self.most > 0:
+            if len(made) == self.most > 0 and not self.is_spread:
                 self.cut = drop.step
                 return
             made.add(place)
             yield drop
 
-    def places(self) -> Iterator[tuple[int, bool]]:
+    def places(self) -> Iterable[tuple[int, bool]]:
+        """The steps at which translations are dropped, and whether those of satp are."""
+        if self.tells_stale:
+            return self.stale_places()
+        if not self.is_spread:
+            return self.all_places()
+        even = self.even_places() if self.session.runs.start.has_first() else iter(())
+        return [*evenly(self.events(), self.most), *evenly(even, self.most)]
+
+    def stale_places(self) -> list[tuple[int, bool]]:
+        """The steps before uses of stale translations."""
+        places = list(dict.fromkeys(stale_places(self.session.runs, self.start, self.end)))
+        self.total = min(len(places), self.most or len(places))
+        return places
+
+    def all_places(self) -> Iterator[tuple[int, bool]]:
+        """All steps at which there may be some to drop."""
+        yield from self.events()
+        if self.session.runs.start.has_first():
+            yield from self.even_places()
+
+    def events(self) -> Iterator[tuple[int, bool]]:
         """Steps at which those for V = 1, or those of satp, are dropped: entries into V = 1, and traps."""
         runs = self.session.runs
         for visit, trap in visits.visits_and_traps(runs, self.start, self.end, lambda low, high: None):
@@ -331,3 +385,39 @@ class Search:
         else:
             self.found[place] = value_of(self.session, drop, plain, report, difference)
             yield self.found[place]
+
+
+def shown(session: Session, start: int, end: int) -> int:
+    """Prints whether dropped translations change the report, and where. The status is 1 where they do."""
+    search = Search(session, start, end, session.options.most)
+    for value in search.findings():
+        if not session.options.json:
+            print("\n".join(lines_of(value)), flush=True)
+        if session.options.first:
+            search.cut = search.changing[-1] + 1
+            break
+    changed, until = len(search.changing), search.cut
+    if until is None and end < session.end():
+        until = end
+    where = "the end" if until is None else f"step {until}"
+    is_cut = search.cut is not None and not session.options.first
+    where += ": --most N looks at more" if is_cut or search.is_swept else ""
+    line = f"{search.shown()} the report, {'all in one run, ' if search.is_swept else ''}up to {where}"
+    steps = ", ".join(map(str, sorted(search.changing)))
+    lines = [line + (f"; those at step {steps}" if changed > 1 else "")]
+    if search.together:
+        lines.append("but the run with all of them has another report:")
+        lines += [f"  {words}" for words in search.together]
+    if changed or search.together:
+        lines.append("the standard permits each of these runs, and the guest's fences do not decide between "
+                     "them")
+    elif not search.count:
+        at = "no step uses a cached translation that the tables do not give" if search.tells_stale else \
+            "no translation is cached at an entry into V = 1"
+        if session.runs.start.has_first() and not search.tells_stale:
+            at += ", and none of satp at any other of these steps"
+        lines.append(at + ", so there is nothing to drop")
+    session.print({"drops": search.count, "changing": changed, "in_one_run": search.is_swept,
+                   "together": search.together, "looked_up_to": until,
+                   "found": list(search.found.values())}, lines)
+    return int(bool(changed or search.together))

@@ -26,7 +26,7 @@ class Access(NamedTuple):
 
 
 def signed(value: int, bits: int) -> int:
-    """The signed number of so many bits that this one stands for."""
+    """The signed number that the low bits of this one stand for."""
     value &= (1 << bits) - 1
     return value - (1 << bits) if value >> bits - 1 else value
 

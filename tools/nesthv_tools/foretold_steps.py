@@ -40,7 +40,7 @@ class Steps:
                 yield self.gone_to(self.saved_at(self.step + 1))
 
     def foretold(self, count: int) -> tuple[list[saves.Saved], bool]:
-        """The next states, at most so many, and whether one step more is made, which cannot be foretold."""
+        """The next states, at most `count`, and whether one step more is made, which cannot be foretold."""
         found: list[saves.Saved] = []
         while len(found) < count:
             answer, = self.stub.answers(["s"])

@@ -6,12 +6,14 @@ import contextlib
 import hashlib
 import itertools
 import os
+import re
 import subprocess
 from collections.abc import Iterable, Iterator
+from typing import BinaryIO
 
 from nesthv_tools import (
-    children, endings, event_logs, faults, foretold_steps, parallel, progress, records, reports, saves,
-    state_cache, state_files, stubs, tracers)
+    children, endings, event_logs, faults, foretold_steps, logged_steps, parallel, programs, progress,
+    records, reports, saves, state_cache, state_files, stubs, tracers)
 
 KEPT_IN_MEMORY, KEPT_IN_FILES = 8, 4  # states
 AT_ONCE = 256  # single steps from one state
@@ -107,7 +109,7 @@ class Runs:
 
     def __init__(self, program: str, guest: Guest, cache: state_cache.Cache) -> None:
         self.program, self.guest, self.cache = program, guest, cache
-        self.stub, self.tracer = stubs.beside(program), tracers.beside(program)
+        self.stub, self.tracer = programs.beside(stubs.NAME, program), programs.beside(tracers.NAME, program)
         self.folder = endings.Folder("nesthv-look-")
         self.numbers, self.calls = itertools.count(), 0
         self.known: collections.OrderedDict[int, saves.Saved] = collections.OrderedDict()
@@ -115,6 +117,7 @@ class Runs:
             self.put(name, data)
         self.first, self.far = guest.first, FAR * guest.blocks
         self.last = self.first + guest.steps
+        self.told_kinds: dict[str, bool] = {}  # which kinds of lines its log may have
         self.goes_back = True  # whether states before the one that is asked for may be asked for, too
 
     @property
@@ -247,20 +250,40 @@ class Runs:
                 yield from parallel.in_order(line.at, range(step + 1, until + 1))
             step = until
 
-    def logged(self, kinds: Iterable[str], start: int, end: int) -> Iterator[event_logs.Line]:
-        """The lines of these kinds in the log of the run, from a step on, up to a second one. Their steps are
-        those of the guest."""
+    def tells(self, kind: str) -> bool:
+        """Whether there is a log that has lines of this kind."""
+        if self.tracer and kind not in self.told_kinds:
+            with Line(self, self.first, None) as line:
+                self.told_kinds[kind] = line.tells(kind)
+        return self.told_kinds.get(kind, False)
+
+    def logged(self, kinds: Iterable[str], start: int, end: int,
+               has_all: bool = False) -> Iterator[event_logs.Line]:
+        """The lines of these kinds in the log of the run, from a step on, up to a second one, as
+        `event_logs.Log` has them. Their steps are those of the guest."""
         before, saved = self.last_before(start + 1)
         with Line(self, before, saved) as line:
-            for each in line.logged(kinds, start - before, end - before):
+            for each in line.logged(kinds, start - before, end - before, has_all):
                 yield each._replace(step=each.step + before)
+
+    def steps_of_form(self, form: re.Pattern[bytes], start: int, end: int) -> Iterator[int]:
+        """The steps from one on, up to a second one, whose lines in the log have a form. Its first group is
+        their number."""
+        before, saved = self.last_before(start + 1)
+        with Line(self, before, saved) as line:
+            for step in line.steps_of_form(form, start - before, end - before):
+                yield step + before
 
     def stepped(self, start: int, end: int) -> Iterator[saves.Saved]:
         """The states behind a step, up to a second one, by the stub."""
         state = self.at(start)
         with Line(self, start, state) as line, line.stub(end) as stub:
-            yield from foretold_steps.Steps(stub, lambda step: self.known.get(step) or line.at(step),
-                                            state).until(end)
+            def saved_at(step: int) -> saves.Saved:
+                return self.known.get(step) or line.at(step)
+            if self.tracer:
+                yield from logged_steps.Steps(self, stub, saved_at, state).until(end)
+            else:
+                yield from foretold_steps.Steps(stub, saved_at, state).until(end)
 
 
 class Line:
@@ -305,8 +328,37 @@ class Line:
         """The state at this step."""
         return self.runs.saved_of(self.call("save", step))
 
-    def logged(self, kinds: Iterable[str], start: int, end: int) -> Iterator[event_logs.Line]:
+    def logged(self, kinds: Iterable[str], start: int, end: int,
+               has_all: bool = False) -> Iterator[event_logs.Line]:
         """The lines of these kinds in the log of the run, whose first step is 0."""
+        try:
+            with self.log_of(kinds, start, end) as file:
+                yield from event_logs.Log(file, "the log", has_all)
+        except (tracers.Refused, event_logs.Wrong) as why:
+            raise Unusable(str(why)) from None
+
+    def steps_of_form(self, form: re.Pattern[bytes], start: int, end: int) -> Iterator[int]:
+        """The steps whose lines in the log of the run have a form, of which the first group is their number."""
+        try:
+            with self.log_of(["steps"], start, end) as file:
+                yield from (int(each[1]) for each in event_logs.Log(file, "the log").found(form))
+        except (tracers.Refused, event_logs.Wrong) as why:
+            raise Unusable(str(why)) from None
+
+    def tells(self, kind: str) -> bool:
+        """Whether the log may have lines of this kind, which an older program refuses."""
+        try:
+            with self.log_of([kind], 1, 1) as file:
+                file.read()
+        except tracers.Refused as why:
+            if "usage" in str(why):
+                return False
+            raise Unusable(str(why)) from None
+        return True
+
+    @contextlib.contextmanager
+    def log_of(self, kinds: Iterable[str], start: int, end: int) -> Iterator[BinaryIO]:
+        """The bytes of the log."""
         assert self.runs.tracer
         own = self.files.get(self.start)
         name = self.runs.put_config(self.keys(own) if own else self.runs.guest.keys, end)
@@ -314,9 +366,7 @@ class Line:
         self.runs.calls += 1
         try:
             with tracers.log_of(self.runs.tracer, guest, tracers.words_of(set(kinds), start, end)) as file:
-                yield from event_logs.Log(file, "the log")
-        except (tracers.Refused, event_logs.Wrong) as why:
-            raise Unusable(str(why)) from None
+                yield file
         finally:
             with contextlib.suppress(FileNotFoundError):
                 os.remove(self.runs.path(name))

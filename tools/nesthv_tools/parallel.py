@@ -1,9 +1,8 @@
 """Work for all processors."""
 import collections
 import os
-from concurrent import futures
 from collections.abc import Callable, Iterable, Iterator
-from typing import TypeVar
+from typing import Any, TypeVar
 
 Item = TypeVar("Item")
 Made = TypeVar("Made")
@@ -11,9 +10,10 @@ Made = TypeVar("Made")
 
 def in_order(make: Callable[[Item], Made], items: Iterable[Item]) -> Iterator[Made]:
     """What `make` gives for these items, in their order, made by as many threads as there are processors."""
+    from concurrent import futures  # which takes a while, and few tools need it
     count = os.cpu_count() or 1
     with futures.ThreadPoolExecutor(count) as pool:
-        waiting: collections.deque[futures.Future[Made]] = collections.deque()
+        waiting: collections.deque[Any] = collections.deque()
         try:
             for item in items:
                 waiting.append(pool.submit(make, item))

@@ -5,7 +5,8 @@ from typing import Any
 
 from nesthv_tools import registers, reports, saves, walks
 from nesthv_tools.guest_runs import Guest
-from nesthv_tools.symbols import Disassembler, Symbols
+from nesthv_tools.symbols import Disassembler
+from nesthv_tools.world_symbols import Symbols
 
 Value = dict[str, Any]
 
@@ -19,10 +20,9 @@ def instruction_of(saved: saves.Saved, symbols: Symbols, disassembler: Disassemb
     word, physical, why = walks.fetched(saved)
     if word is None or physical is None:
         return {"word": None, "symbol": "", "text": "", "why": why}
-    is_nested = saved.mode() in ("VS", "VU")
     if word not in disassembler.known:
         disassembler.learn([word, *words_near(saved, physical)])
-    return {"word": word, "symbol": symbols.symbol_of(word, pc, physical, is_nested),
+    return {"word": word, "symbol": symbols.symbol_of(word, pc, physical, saved.mode()),
             "text": disassembler.text_of(word, pc), "why": ""}
 
 

@@ -7,8 +7,8 @@ from collections.abc import Callable, Iterable, Iterator
 from typing import NamedTuple
 
 from nesthv_tools import (
-    callgrind_files, code_places, coverage_files, executed_code, exits, streams, timeline_drawing,
-    timeline_events, timelines, whole_files)
+    callgrind_files, code_places, coverage_files, executed_code, exits, function_drawing, streams,
+    timeline_drawing, timeline_events, timelines, whole_files)
 from nesthv_tools.event_logs import Line, Log
 from nesthv_tools.executed_code import Executed, Files
 from nesthv_tools.timelines import Mark, Stretch
@@ -18,10 +18,15 @@ class Refused(Exception):
     """Why there is nothing to show, in words."""
 
 
+def is_about_code(options: Namespace) -> bool:
+    """Whether something is asked for that is made of counts."""
+    return bool(options.callgrind or options.lcov or options.functions)
+
+
 def kinds_of(options: Namespace) -> set[str]:
     """The kinds of lines that the log needs."""
     kinds: set[str] = set()
-    if options.callgrind or options.lcov:
+    if is_about_code(options):
         kinds.update(executed_code.KINDS)
     if options.exits:
         kinds.update(exits.KINDS)
@@ -45,7 +50,7 @@ class Profile:
         self.counts, self.exits = executed_code.Counts(), exits.Exits()
         self.timeline = timelines.Timeline(log, options.start if options.log else options.start or 0)
         self.events: timeline_events.Writer | None = None
-        self.drawing = timeline_drawing.Drawing(shown.name)
+        self.drawing = timeline_drawing.Drawing(shown.name, options.columns)
         self.sinks: list[Callable[[Stretch | Mark], None]] = []
         if options.timeline:
             file = stack.enter_context(whole_files.opened(options.timeline))
@@ -57,7 +62,7 @@ class Profile:
     def take(self) -> None:
         """Reads the log."""
         takers: list[Callable[[Line], None]] = []
-        if self.options.callgrind or self.options.lcov:
+        if is_about_code(self.options):
             takers.append(self.counts.take)
         if self.options.exits:
             takers.append(self.exits.take)
@@ -77,7 +82,7 @@ class Profile:
         """Writes what was made, once all of it is there."""
         if self.sinks and not self.timeline.visit:
             raise Refused(f"{self.log.name} has no event, so there is no timeline")
-        made = dict(self.texts_of_code()) if self.options.callgrind or self.options.lcov else {}
+        made = dict(self.texts_of_code()) if is_about_code(self.options) else {}
         if self.options.svg:
             made[self.options.svg] = self.drawing.svg()
         if self.events:
@@ -90,14 +95,16 @@ class Profile:
     def texts_of_code(self) -> Iterator[tuple[str, str]]:
         """The files of what was executed: the path and the text of each."""
         if not self.counts.worlds:
-            raise Refused(f"{self.log.name} has no counts, by which --callgrind and --lcov are made: "
-                          "nesthv-trace writes them where `counts` is among its kinds")
+            raise Refused(f"{self.log.name} has no counts, by which --callgrind, --lcov and --functions are "
+                          "made: nesthv-trace writes them where `counts` is among its kinds")
         executed = Executed(self.counts, self.run.files)
         for notice in executed.notices:
             streams.say(notice)
         if self.options.callgrind:
             lines = callgrind_files.lines_of(executed, self.run.command)
             yield self.options.callgrind, "\n".join(lines) + "\n"
+        if self.options.functions:
+            yield self.options.functions, function_drawing.svg_of(executed, self.run.name)
         if self.options.lcov:
             yield self.options.lcov, self.coverage(executed)
 

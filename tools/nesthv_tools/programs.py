@@ -85,14 +85,24 @@ def is_program(path: str) -> bool:
     return os.path.isfile(path) and os.access(path, os.X_OK)
 
 
-def companion(name: str, path: str | None = None) -> str | None:
-    """The path of another program, as nesthv-gdb: the one that is named, else that of where tools/install has
-    put the tools, else that of dist/, else the one that rt has built; or none."""
+def beside(name: str, program: str) -> str | None:
+    """The path of another program, as nesthv-gdb, in the folder of this one, or where rt has built both; or
+    none."""
     crate = name.replace("-", "_")
-    built = os.path.join(places.TOP, "crates", crate, "out", crate)
-    installed = os.path.join(os.path.dirname(INSTALLED), name)
-    candidates = [path] if path else [installed, os.path.join(places.DIST, name), built]
-    return next((os.path.abspath(each) for each in candidates if is_program(each)), None)
+    names = (name, crate, os.path.join("..", "..", crate, "out", crate))
+    paths = (os.path.join(os.path.dirname(program), each) for each in names)
+    return next((path for path in paths if is_program(path)), None)
+
+
+def companion(name: str, path: str | None = None) -> str | None:
+    """The path of another program, as nesthv-gdb: the one that is named, else the one beside the program that
+    NESTHV has, else that of where tools/install has put the tools, else that of dist/, else the one that rt
+    has built; or none."""
+    if path:
+        return os.path.abspath(path) if is_program(path) else None
+    programs = (os.environ.get("NESTHV"), INSTALLED, os.path.join(places.DIST, "nesthv"), BUILT)
+    found = filter(None, (beside(name, each) for each in programs if each))
+    return next((os.path.abspath(each) for each in found), None)
 
 
 def why_not(path: str) -> str:

@@ -12,17 +12,23 @@ KEPT = 4  # states, in a search
 LONG = 10000  # steps of a search, behind which its runs are compared on the way
 
 
-def first_step(holds: Holds, low: int, high: int, tell: Tell = lambda low, high: None) -> int:
-    """A step at which `holds` does, and at the one before it does not, where it holds at `high` and not at
-    `low`: the first such step where it stays once it holds."""
-    while high - low > 1:
+def narrowed(holds: Holds, low: int, high: int, width: int, tell: Tell) -> tuple[int, int]:
+    """Two steps with at most `width` between them: at the first `holds` does not, and at the second it does,
+    as at `low` and `high`."""
+    while high - low > width:
         tell(low, high)
         middle = (low + high) // 2
         if holds(middle):
             high = middle
         else:
             low = middle
-    return high
+    return low, high
+
+
+def first_step(holds: Holds, low: int, high: int, tell: Tell = lambda low, high: None) -> int:
+    """A step at which `holds` does, and at the one before it does not, where it holds at `high` and not at
+    `low`: the first such step where it stays once it holds."""
+    return narrowed(holds, low, high, 1, tell)[1]
 
 
 def last_change(holds: Holds, low: int, high: int, tell: Tell = lambda low, high: None) -> int | None:

@@ -4,7 +4,9 @@ import time
 from argparse import Namespace
 from collections.abc import Callable
 
-from nesthv_tools import guest_runs, presentation, programs, saves, state_cache, streams, symbols, terminal
+from nesthv_tools import (
+    code_places, debuggers, guest_runs, presentation, programs, saves, state_cache, streams, symbols,
+    terminal, world_symbols)
 from nesthv_tools.presentation import Value
 
 TOLD_EVERY = 10.0  # seconds
@@ -29,11 +31,15 @@ class Session:
         key = f"{programs.hash_of(program.path)[:16]}-{self.guest.hash()}"
         cache = state_cache.Cache(options.cache, options.cache_size * state_cache.MIB, key)
         self.runs, self.told = guest_runs.Runs(program.path, self.guest, cache), time.monotonic()
-        beside = symbols.elf_beside(self.guest.image) if self.guest.image else None
-        self.symbols = symbols.Symbols(beside, [elf_of(name) for name in options.elf])
+        self.symbols = symbols_of(self.guest.image, options.elf)
         self.disassembler = symbols.Disassembler()
         self.doing: Callable[[int, int], str] = \
             lambda low, high: f"{self.runs.calls} runs made, now between step {low:,} and {high:,}"
+
+    def close(self) -> None:
+        """Ends what was begun."""
+        self.symbols.close()
+        self.runs.close()
 
     def tell(self, low: int, high: int) -> None:
         """Says how far a search is, where it takes long."""
@@ -78,8 +84,16 @@ class Session:
         return f"{saved.numbers['steps']} {saved.mode()} {shown}"
 
 
-def elf_of(name: str) -> symbols.Elf:
-    elf = symbols.elf_at(name)
-    if not elf:
+def symbols_of(image: str | None, names: list[str]) -> world_symbols.Symbols:
+    """The symbols of a guest that begins with an image, or goes on from a file, and of more ELF files."""
+    worlds = debuggers.worlds_beside(image) if image else debuggers.Worlds(None, [])
+    own = code_places.code_at(worlds.own.path) if worlds.own else None
+    nested = [code_places.code_at(each.path) for each in worlds.nested]
+    return world_symbols.Symbols(own, filter(None, nested), [code_of(name) for name in names])
+
+
+def code_of(name: str) -> code_places.Code:
+    code = code_places.code_at(name)
+    if not code:
         raise Bad(f"{name} cannot be read as an ELF file of 64 bits, little endian")
-    return elf
+    return code

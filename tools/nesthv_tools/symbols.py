@@ -1,6 +1,5 @@
 """Symbols of ELF files, and instructions in words, as far as there are ELF files and `objdump`."""
 import bisect
-import os
 import re
 import shutil
 import struct
@@ -21,8 +20,8 @@ HIDDEN = ("$", ".L")
 
 
 class Elf:
-    """The sections that an ELF file has in memory, where in them its instructions are, and its symbols
-    there."""
+    """The sections that an ELF file has in memory, where in them its instructions are, its symbols there, and
+    whether it tells lines of the sources."""
 
     def __init__(self, data: bytes) -> None:
         if data[:6] != b"\x7fELF\x02\x01":
@@ -37,6 +36,7 @@ class Elf:
                 self.sections.append((address, part))
                 code += [(address, address + len(part))] * bool(flags & 4)
                 named[index] = address, length
+        self.has_lines = b".debug_line\0" in data
         found = sorted(self.symbols_of(data, headers, named))
         self.symbols = [each for each in found if not each[1].startswith(HIDDEN)]
         self.places = [place for place, _ in self.symbols]
@@ -95,40 +95,6 @@ def elf_at(path: str) -> Elf | None:
             return Elf(file.read())
     except (OSError, ValueError, OverflowError, struct.error, IndexError):
         return None
-
-
-def elf_beside(path: str) -> Elf | None:
-    """The ELF file that stands beside an image: the same name that ends in .elf, or the image's own with .elf
-    behind it."""
-    for name in (os.path.splitext(path)[0] + ".elf", path + ".elf"):
-        if os.path.isfile(name) and not os.path.samefile(name, path):
-            return elf_at(name)
-    return None
-
-
-class Symbols:
-    """The ELF file of an image, which is for physical addresses, or for virtual ones while V is 0; and
-    others, whose addresses may be either."""
-
-    def __init__(self, own: Elf | None, others: list[Elf]) -> None:
-        self.own, self.others = own, others
-
-    def symbol_at_virtual(self, word: int, virtual: int, is_nested: bool) -> str | None:
-        """The symbol of an instruction by its virtual address, or none where that does not tell it."""
-        if not self.own and not self.others:
-            return ""
-        if is_nested or not self.own or self.own.word_at(virtual) != word:
-            return None
-        return self.own.symbol_at(virtual)
-
-    def symbol_of(self, word: int, virtual: int, physical: int, is_nested: bool) -> str:
-        """The symbol of an instruction, where an ELF file has the word that RAM has; else nothing."""
-        places = [(self.own, physical)] if is_nested else [(self.own, virtual), (self.own, physical)]
-        places += [(elf, place) for elf in self.others for place in (virtual, physical)]
-        for elf, place in places:
-            if elf and elf.word_at(place) == word:
-                return elf.symbol_at(place)
-        return ""
 
 
 def system_text(word: int) -> str:

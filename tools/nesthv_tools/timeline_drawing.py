@@ -13,7 +13,7 @@ from nesthv_tools.timelines import Mark, Stretch, Visit
 Row = tuple[str, str]  # a world, and a mode
 T = TypeVar("T")
 
-MOST = 1024  # columns
+COLUMNS = 1024  # at most, where nothing else is asked for
 WIDTH, BAR = 1024, 14  # pixels of all columns, and of the height of a bar
 MARGIN, GAP = 14, 24
 TOP = ROW * 2
@@ -36,11 +36,12 @@ def joined(columns: list[Counter[T]]) -> list[Counter[T]]:
 
 
 class Columns:
-    """The steps of a run from `start` on, in at most MOST columns, each of as many. Where there are more
+    """The steps of a run from `start` on, in at most `most` columns, each of as many. Where there are more
     steps, two columns are made one."""
 
-    def __init__(self, start: int) -> None:
-        self.start, self.end, self.width = start, start, 1
+    def __init__(self, start: int, most: int) -> None:
+        self.start, self.most = start, most
+        self.end, self.width = start, 1
         self.rows: list[Counter[Row]] = []
         self.marks: list[Counter[str]] = []
 
@@ -49,7 +50,7 @@ class Columns:
         if end <= self.end:
             return
         self.end = end
-        while self.end - self.start > MOST * self.width:
+        while self.end - self.start > self.most * self.width:
             self.width *= 2
             self.rows = joined(self.rows)
             self.marks = joined(self.marks)
@@ -88,10 +89,10 @@ class Columns:
 
 
 class Drawing:
-    """Takes a timeline, and draws it."""
+    """Takes a timeline, and draws it in at most `most` columns."""
 
-    def __init__(self, guest: str) -> None:
-        self.guest, self.columns = guest, Columns(0)
+    def __init__(self, guest: str, most: int = COLUMNS) -> None:
+        self.guest, self.columns = guest, Columns(0, most)
         self.worlds: dict[str, int] = {}  # in the order of their rows
         self.modes: set[Row] = set()
         self.marks: Counter[str] = Counter()
@@ -106,7 +107,7 @@ class Drawing:
 
     def take(self, item: Stretch | Mark) -> None:
         if not self.columns.end:
-            self.columns = Columns(item.visit.start)
+            self.columns = Columns(item.visit.start, self.columns.most)
         if isinstance(item, Mark):
             self.columns.mark(item.kind, item.step)
             self.marks[item.kind] += 1

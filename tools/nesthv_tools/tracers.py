@@ -1,21 +1,13 @@
 """Runs nesthv-trace, which writes the log of a guest's run."""
 import contextlib
-import os
 import subprocess
 import tempfile
 from collections.abc import Iterator
 from typing import IO, BinaryIO, NamedTuple, cast
 
-from nesthv_tools import children, event_logs, faults, programs
+from nesthv_tools import children, event_logs, faults
 
-NAME, BUILT = "nesthv-trace", "nesthv_trace"
-
-
-def beside(program: str) -> str | None:
-    """The nesthv-trace in the folder of a program, or none."""
-    folder = os.path.dirname(program)
-    return next((path for path in (os.path.join(folder, each) for each in (NAME, BUILT))
-                 if programs.is_program(path)), None)
+NAME = "nesthv-trace"
 
 
 class Refused(Exception):

@@ -1,11 +1,22 @@
 """Why a trap was taken, as far as the states up to it say."""
 from collections.abc import Callable, Iterator
 
-from nesthv_tools import csrs, registers, saves, searches, walks
+from nesthv_tools import csrs, logged_timer, registers, registers_at, saves, searches, walks
 from nesthv_tools.sessions import Session
 from nesthv_tools.state_changes import Trap
 
-Question = Callable[[saves.Saved], object]
+Question = Callable[[registers_at.State], object]
+
+
+class IsTimer:
+    """Asks whether the timer of a state is this moment."""
+
+    def __init__(self, timer: int) -> None:
+        self.timer = timer
+
+    def __call__(self, state: registers_at.State) -> object:
+        return state.numbers["timer"] == self.timer
+
 
 TIME, SATP = csrs.NUMBERS["time"], csrs.NUMBERS["satp"]
 WFI, SRET = 0x10500073, 0x10200073
@@ -62,8 +73,7 @@ def conditions_of(saved: saves.Saved, cause: int, target: str) -> Iterator[tuple
     name = next(name for each, name, _ in registers.PENDING if each == bit)
     if bit == 5:
         timer = saved.numbers["timer"]
-        yield f"the clock is {saved.numbers['clock']}, and the timer {timer}", \
-            lambda state: state.numbers["timer"] == timer
+        yield f"the clock is {saved.numbers['clock']}, and the timer {timer}", IsTimer(timer)
         register = "sie"
     elif bit == 9:
         moment, byte = saved.inputs[0]
@@ -92,7 +102,13 @@ def reasons_of(session: Session, before: saves.Saved, word: int | None, trap: Tr
 def since(session: Session, holds: Question, step: int) -> str:
     """From which step on something holds that does at `step`, in words."""
     runs = session.runs
-    made = searches.last_change(lambda each: bool(holds(runs.at(each))), runs.first, step, session.tell)
+    made: int | None
+    if not isinstance(holds, IsTimer):
+        made = registers_at.last_change(runs, lambda state: bool(holds(state)), step, session.tell)
+    elif runs.tracer:
+        made = logged_timer.changed_to(runs, holds.timer, step)
+    else:
+        made = searches.last_change(lambda each: bool(holds(runs.at(each))), runs.first, step, session.tell)
     return f", since {session.line(runs.at(made - 1))}" if made else ", since the start"
 
 

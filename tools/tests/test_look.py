@@ -1,6 +1,7 @@
 """Tests of tools/look and of what it stands on."""
 import json
 import os
+import shutil
 import signal
 import struct
 import subprocess
@@ -10,10 +11,11 @@ from unittest import mock
 from xml.dom import minidom
 
 from saved_files import HGATP, form
-from helper import LETTER, LIMIT, LOOP, PROGRAM, TOOLS, TOP, ToolTest, take_signals
+from helper import LIMIT, LOOP, PROGRAM, TOOLS, TOP, ToolTest, take_signals
 from nesthv_tools import (
-    drawing, fences, guest_runs, presentation, registers, saves, searches, state_cache, state_changes, symbols,
-    trap_causes, walks)
+    drawing, guest_runs, logged_bytes, presentation, programs, registers, saves, searches, state_cache, state_changes,
+    tracers, trap_causes, walks)
+from nesthv_tools.commands import look
 
 FAKE = os.path.join(TOOLS, "tests", "fake-program")
 TABLE = 0x80004000  # of HGATP
@@ -318,56 +320,6 @@ class RegisterTest(unittest.TestCase):
             self.assertEqual(registers.meaning_of(name, value), words)
 
 
-class SymbolTest(ToolTest):
-    def elf(self):
-        """An ELF file with LETTER at 80000000, and the symbols `start` there and `call` at 80000008."""
-        names, count = b"\0start\0call\0", 4
-        symbols = bytes(24) + b"".join(struct.pack("<IBBHQQ", name, 0, 0, 1, 0x80000000 + at, 0)
-                                       for name, at in ((1, 0), (7, 8)))
-        places = [64 + 64 * count]
-        for data in (LETTER, symbols):
-            places.append(places[-1] + len(data))
-        header = b"\x7fELF\x02\x01\x01" + bytes(9)
-        header += struct.pack("<2HI3QI6H", 2, 243, 1, 0, 0, 64, 0, 64, 0, 0, 64, count, 0)
-        sections = [(0, 0, 0, 0, 0, 0, 0, 0, 0, 0),
-                    (0, 1, 6, 0x80000000, places[0], len(LETTER), 0, 0, 4, 0),
-                    (0, 2, 0, 0, places[1], len(symbols), 3, 1, 8, 24),
-                    (0, 3, 0, 0, places[2], len(names), 0, 0, 1, 0)]
-        header += b"".join(struct.pack("<2I4Q2I2Q", *each) for each in sections)
-        return header + LETTER + symbols + names
-
-    def test_symbols(self):
-        self.put("a.elf", self.elf())
-        elf = symbols.elf_beside(os.path.join(self.folder, "a.bin"))
-        self.assertEqual([elf.symbol_at(0x80000000 + at) for at in (0, 4, 8, 12)],
-                         ["start", "start+0x4", "call", "call+0x4"])
-        found = symbols.Symbols(elf, [])
-        self.assertEqual(found.symbol_of(0x73, 0x1008, 0x80000008, True), "call")
-        self.assertEqual(found.symbol_of(0x74, 0x1008, 0x80000008, True), "")
-        self.assertEqual(found.symbol_of(0x73, 0x80000008, 0x80010000, True), "")
-        self.assertEqual(found.symbol_of(0x73, 0x80000008, 0x80010000, False), "call")
-
-    def test_files_that_are_none(self):
-        whole = self.elf()
-        for length in range(0, len(whole), 3):
-            symbols.elf_at(self.put("a.elf", whole[:length]))
-        self.assertIsNone(symbols.elf_at(os.path.join(self.folder, "a.bin")))
-
-    def test_without_objdump(self):
-        told = symbols.Disassembler()
-        told.program = None
-        self.assertEqual(told.text_of(0x13, 0), ".word 0x00000013")
-        self.assertEqual(told.text_of(0x62628073, 0), "hfence.gvma t0, t1")
-
-    def test_objdump(self):
-        told = symbols.Disassembler()
-        if not told.program or "riscv" not in told.program:
-            self.skipTest("binutils for RISC-V are not installed")
-        told.learn([0x13, 0x0000006F, 0, 0x00628023])
-        self.assertEqual([told.text_of(word, 0x80000010) for word in (0x13, 0x6F, 0, 0x00628023)],
-                         ["nop", "j 80000010", ".word 0x00000000", "sb t1, 0(t0)"])
-
-
 class CacheTest(ToolTest):
     def test_bound(self):
         cache = state_cache.Cache(self.folder, 100000, "key")
@@ -621,11 +573,33 @@ class LoggedTest(LookTest):
         for words in ([path, "traps"], [path, "traps", "2", "6"], [path, "traps", "6", "7", "--json"],
                       [path, "first-trap"], [path, "first-trap", "2"], [path, "last-trap"],
                       [path, "last-trap", "--step", "6"], [hanging, "traps", "995", "end"], [hanging, "last-trap"],
-                      [path, "entered"]):
+                      [path, "entered"], [path, "first", "console", "1"], [path, "first", "console", "2", "--json"],
+                      [path, "first", "console", "3"]):
             with self.subTest(words=words):
                 by_log, by_states = self.look(*words), self.look(*words, NESTHV=FAKE)
                 self.check_plain(by_log, by_states.returncode)
                 self.assertEqual(by_log.stdout, by_states.stdout)
+
+    def test_bytes_in_a_long_run(self):
+        """Where the log of the whole run would be long, that of a part of it is read; and where it has too few bytes,
+        the byte is found without it."""
+        session = mock.Mock()
+        runs = session.runs
+        session.end.return_value, runs.first, runs.last, runs.guest.blocks = 10**9, 0, 10**9, 1
+        runs.told_at = lambda step: mock.Mock(console=b"x" * (step // 1000))
+        asked = []
+
+        def logged(kinds, low, high):
+            asked.append((kinds, high - low))
+            return [mock.Mock(kind="put", step=step - 1) for step in range(low // 1000 * 1000 + 1000, high + 1, 1000)]
+        runs.logged = logged
+        for has_bytes in (True, False):
+            if not has_bytes:
+                runs.logged = lambda kinds, low, high: []
+            step = look.first_step(session, ["console", "5000"], lambda step: step // 1000 >= 5000)
+            self.assertEqual(step, 5000000)
+        self.assertEqual([kinds for kinds, _ in asked], [["calls"]])
+        self.assertLessEqual(asked[0][1], logged_bytes.WINDOW)
 
     def test_log_that_fails(self):
         path = self.trapping()
@@ -640,7 +614,7 @@ class LoggedTest(LookTest):
             self.check_said(ran, said)
 
 
-class ProgramTest(LookTest):
+class ExampleTest(LookTest):
     """The tool, by a program that has `save`, on the examples."""
 
     def setUp(self):
@@ -660,6 +634,8 @@ class ProgramTest(LookTest):
             path = path.removesuffix(".bin") + ".toml"
         return path
 
+
+class ProgramTest(ExampleTest):
     def test_traps(self):
         lines = self.lines(self.example("nested3"), "traps", "0", "40")
         self.assertEqual([line.split()[0] for line in lines], ["14", "35"])
@@ -674,69 +650,37 @@ class ProgramTest(LookTest):
                             for line in lines), lines)
         self.assertIn("load: 8000b008, by the cached translation", lines)
 
-    def test_fences(self):
-        lines = self.lines(self.example("nested3"), "fences", status=1)
-        self.assertIn("1 of 5 drops changes the report, up to the end", lines)
-        self.assertTrue(any("the entry at 80009008 was changed by 45 HS" in line for line in lines), lines)
-        self.assertEqual(self.lines("nested3.toml", "fences", "60", "end")[0],
-                         "0 of 3 drops change the report, up to the end")
-        self.assertEqual(self.lines("nested3.toml", "fences", "--most", "1")[0],
-                         "0 of 1 drop changes the report, up to step 51: --most N looks at more")
+    def alone(self):
+        """The program where neither nesthv-trace nor nesthv-gdb stands beside it."""
+        if not programs.beside(tracers.NAME, self.program):
+            self.skipTest("nesthv-trace does not stand beside the program")
+        folder = os.path.join(self.folder, "alone")
+        os.mkdir(folder)
+        os.symlink(self.program, os.path.join(folder, "nesthv"))
+        return os.path.join(folder, "nesthv")
 
-    def without_fence(self):
-        """A copy of nested3 without an HFENCE.GVMA."""
-        with open(os.path.join(TOP, "examples", "nested3", "nested3.bin"), "rb") as file:
-            image = file.read()
-        path = self.example("nested3")
-        self.put("nested3.bin", image.replace(struct.pack("<I", 0x62628073), struct.pack("<I", 0x13)))
-        return path
+    def test_traps_by_log(self):
+        """With an ELF file too each trap is shown as saved states give it."""
+        if not shutil.which("riscv64-linux-gnu-gcc"):
+            self.skipTest("the GNU tools for RISC-V are not installed")
+        alone, path = self.alone(), self.example("timers")
+        shutil.copy(os.path.join(TOP, "examples", "timers", "timers.s"), self.folder)
+        self.assertEqual(self.tool("examples/build", "timers.s").returncode, 0)
+        by_log, by_states = self.look(path, "traps"), self.look(path, "traps", NESTHV=alone)
+        self.assertIn(b" VS 0000000000000010  kernel+0x10  ", by_log.stdout)
+        self.assertEqual(by_log.stdout, by_states.stdout)
 
-    @mock.patch.object(fences, "SWEPT", 20)
-    def test_all_drops_in_one_run(self):
-        """The report stays where no fence is left out, and else one of the drops alone changes it too."""
-        for make, is_right in ((lambda: self.example("timers"), True), (self.without_fence, False)):
-            guest = guest_runs.Guest(self.program, make(), 0)
-            runs = guest_runs.Runs(self.program, guest, state_cache.Cache(self.folder, 0, "key"))
-            self.addCleanup(runs.close)
-            plain = runs.call("run", guest.keys, guest.steps).read()
-            end = runs.at(runs.last).numbers["steps"]
-            sweep = fences.Sweep(runs, runs.first, end, lambda low, high: None)
-            self.assertEqual(sweep.report() == plain, is_right)
-            found = [drop.step for drop in sweep.drops() if drop.report() != plain]
-            self.assertEqual(not found, is_right)
-
-    def test_fence_that_is_left_out(self):
-        self.without_fence()
-        lines = self.lines("nested3.toml", "fences", status=1)
-        self.assertIn("3 of 5 drops change the report, up to the end; those at step 51, 67, 83", lines)
-
-    def test_fences_of_correct_hypervisors(self):
-        for name, drops in (("nested2", 2), ("timers", 15)):
-            self.assertEqual(self.lines(self.example(name), "fences")[0],
-                             f"0 of {drops} drops change the report, up to the end")
-
-    def test_first_stage_fences(self):
-        """A kernel stores to an entry that it has used, and loads by it again, without a fence and with one."""
-        words = [0x00000417, 0x40043283, 0x18029073, 0x000014B7, 0x000063B7, 0x008383B3, 0x0004C503, 0x00100893, 0x73,
-                 0x40843303, 0x0063B423, 0x12048073, 0x0004C503, 0x00100893, 0x73, 0x00800893, 0x73]
-        tables = {0x400: 8 << 60 | 0x80004, 0x408: 0x20002C43, 0x4000: 0x20001401, 0x4010: 0x200000CF,
-                  0x5000: 0x20001801, 0x6008: 0x20002843, 0xA000: 0x41, 0xB000: 0x42}
-        image = bytearray(0xB008)
-        for place, value in tables.items():
-            struct.pack_into("<Q", image, place, value)
-        path = self.configure(front="format = 2\nturns = [[0, 30]]\n", image='"kernel.bin"')
-        for name, fence in (("fenced", 0x12048073), ("unfenced", 0x13)):
-            words[11] = fence
-            self.put("kernel.bin", struct.pack("<17I", *words) + image[68:])
-            if json.loads(self.look(path, "at", "0", "--json").stdout)["first_stage"] is None:
-                self.skipTest("the program caches nothing of the first stage")
-            lines = self.lines(path, "fences", status=int(name == "unfenced"))
-            if name == "fenced":
-                self.assertTrue(lines[0].startswith("0 of "), lines)
-                continue
-            self.assertIn("  page 1000 of satp 8000000000080004, with them: cached 8000a000 r---, table says "
-                          "8000b000 r---", lines)
-            self.assertTrue(any("the entry at 80006008 was changed by 10 HS" in line for line in lines), lines)
+    def test_trace_by_log(self):
+        """By the log and the stub each line is that which saved states give."""
+        alone = self.alone()
+        for name, start, end in (("nested3", "0", "end"), ("kernel", "300", "532"), ("timers", "680", "860"),
+                                 ("hypervisor", "4400", "4500"), ("device", "1100", "end")):
+            with self.subTest(name):
+                path = os.path.join(TOP, "examples", name, f"{name}.toml")
+                by_log = self.look(path, "trace", start, end)
+                self.check_plain(by_log, 0)
+                by_states = self.look(path, "trace", start, end, NESTHV=alone)
+                self.assertEqual(by_log.stdout, by_states.stdout)
 
     def test_diff(self):
         one = self.example("hypervisor")

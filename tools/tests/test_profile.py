@@ -138,6 +138,7 @@ count VS 0000000080000000 hgatp {SECOND} times 3
 count VU 0000000000001000 hgatp {SECOND} times 40
 """
 GCC = shutil.which("riscv64-linux-gnu-gcc")
+TRACER = programs.companion(tracers.NAME)
 
 
 def needs(*programs):
@@ -229,6 +230,13 @@ class ProfileTest(ToolTest):
         finally:
             os._exit(status)
 
+    def texts(self, name):
+        """A picture, and its texts, of which the first is its title."""
+        drawn = minidom.parseString(self.made(name))
+        self.assertEqual(drawn.getElementsByTagName("title")[0].firstChild.data,
+                         drawn.getElementsByTagName("text")[0].firstChild.data)
+        return drawn, [text.firstChild.data for text in drawn.getElementsByTagName("text")]
+
     def made(self, name):
         with open(os.path.join(self.folder, name), encoding="utf-8") as file:
             return file.read()
@@ -302,12 +310,6 @@ class RunTest(ProfileTest):
         self.assertEqual(slices[-2:], [(2, 1, "VS", 5, 6), (2, 1, "VU", 4, 5)])
         self.assertIn("VS, hgatp before the log", self.made("out.svg"))
 
-    def texts(self, name):
-        drawn = minidom.parseString(self.made(name))
-        self.assertEqual(drawn.getElementsByTagName("title")[0].firstChild.data,
-                         drawn.getElementsByTagName("text")[0].firstChild.data)
-        return drawn, [text.firstChild.data for text in drawn.getElementsByTagName("text")]
-
     def test_svg(self):
         self.check_plain(self.profile("--log", "run.log", "--svg", "out.svg"), 0)
         drawn, texts = self.texts("out.svg")
@@ -341,6 +343,13 @@ class RunTest(ProfileTest):
         self.assertEqual(bars, ["some of HS: steps 2,998,272 to 3,002,367", "HS: steps 0 to 2,998,271",
                                 "some of VS, hgatp 7: steps 0 to 2,998,271",
                                 "VS, hgatp 7: steps 2,998,272 to 3,999,999"])
+
+    def test_columns(self):
+        self.check_plain(self.profile("--log", "run.log", "--svg", "out.svg", "--columns", "4"), 0)
+        drawn, texts = self.texts("out.svg")
+        self.assertTrue(texts[-1].startswith("a column is 4 steps, "))
+        bars = [bar.firstChild.firstChild.data for bar in drawn.getElementsByTagName("rect") if bar.firstChild]
+        self.assertEqual(bars[:2], ["some of HS: steps 8 to 11", "HS: steps 0 to 7"])
 
     def test_svg_of_many_guests(self):
         drawing = timeline_drawing.Drawing("many")
@@ -377,6 +386,7 @@ class FaultTest(ProfileTest):
                 (["--log", "run.log", "--exits", "none.toml"], "none.toml cannot be read: there is no such file"),
                 (["--log", "run.log", "--exits", "nothing"], "nothing is not a file, and not an example"),
                 (["--log", "run.log", "--svg", "none/out"], "none/out: No such file"),
+                (["--log", "run.log", "--svg", "out", "--columns", "0"], "argument --columns: 0 is not"),
                 (["--trace", "none", "--exits", self.configure()], "none is not a program"),
                 (["--exits", "a.toml", "--steps", "5"], "--steps is for an ELF file or an image")):
             ran = self.profile(*words)
@@ -459,7 +469,7 @@ class TraceTest(ProfileTest):
         self.check_plain(ran, 2)
         self.check_said(ran, "not one cannot be run: Exec format error")
 
-    @unittest.skipUnless(programs.companion(tracers.NAME), "there is no nesthv-trace")
+    @unittest.skipUnless(TRACER, "there is no nesthv-trace")
     def test_example(self):
         """Each step of `hypervisor` is an instruction, and its report has their number."""
         example = os.path.join(TOP, "examples", "hypervisor")
@@ -467,7 +477,7 @@ class TraceTest(ProfileTest):
             steps = file.readline().split()[4]
         made = {name: os.path.join(self.folder, f"out.{name}") for name in ("callgrind", "timeline", "svg")}
         options = [word for name, path in made.items() for word in (f"--{name}", path)]
-        ran = self.profile(os.path.join(example, "hypervisor.toml"), "--exits", *options)
+        ran = self.profile(os.path.join(example, "hypervisor.toml"), "--exits", "--trace", TRACER, *options)
         self.check_plain(ran, 0)
         self.assertEqual(ran.stdout.count(b"exits of hgatp "), 2)
         self.assertRegex(self.made("out.callgrind"), rf"totals: {steps} \d+ 0 \d+ 0\n$")
@@ -476,7 +486,7 @@ class TraceTest(ProfileTest):
         self.assertIn(f"<title>hypervisor: steps 0 to {int(steps) - 1:,}</title>", self.made("out.svg"))
 
 
-    @unittest.skipUnless(programs.companion(tracers.NAME) and GCC, "there is no nesthv-trace, or no gcc for RISC-V")
+    @unittest.skipUnless(TRACER and GCC, "there is no nesthv-trace, or no gcc for RISC-V")
     @needs("gcc", "lcov", "riscv64-linux-gnu-addr2line")
     def test_lines_as_gcov_counts_them(self):
         """The same program by gcc's own coverage, and by ours as a guest."""
@@ -485,7 +495,7 @@ class TraceTest(ProfileTest):
                       ["lcov", "-q", "-c", "-d", ".", "-o", "gcov.info"],
                       [os.path.join(TOP, "examples", "build"), "-g", "-O0", "b.c"]):
             subprocess.run(words, cwd=self.folder, check=True, stdin=subprocess.DEVNULL, stderr=subprocess.PIPE)
-        self.check_plain(self.profile("b.elf", "--lcov", "out.info"), 0)
+        self.check_plain(self.profile("b.elf", "--lcov", "out.info", "--trace", TRACER), 0)
         expected, found = (self.lines_in(name, "b.c") for name in ("gcov.info", "out.info"))
         both = sorted(set(expected) & set(found))
         self.assertGreater(len(both), 15)
@@ -538,6 +548,26 @@ class CodeTest(ProfileTest):
                     rf"40 .* 0 +0 +0 +40 .* \?\?\?:page 1000 in VU of hgatp {SECOND} \["):
             self.assertRegex(text, f"(?m)^ *{row}")
         self.assertNotIn("unused", text)
+
+    def test_functions(self):
+        self.check_plain(self.profile("--log", "counts.log", "--functions", "out.svg", self.path), 0)
+        drawn, texts = self.texts("out.svg")
+        self.assertEqual(texts, [
+            "a: 92 instructions by function", "HS", "VS", "VU", f"no ELF file, VU of hgatp {SECOND}", "43.5 %",
+            "idle (nested.elf)", "32.6 %", "loop (a.elf)", "14.1 %", "kernel (nested.elf)", "7.6 %", "_start (a.elf)",
+            "2.2 %"])
+        bars = [bar.firstChild.firstChild.data for bar in drawn.getElementsByTagName("rect") if bar.firstChild]
+        self.assertEqual(bars[1:3], ["idle (nested.elf), VS: 30", "loop (a.elf), HS: 13"])
+
+    def test_functions_that_are_many(self):
+        names = [f"f{number}" for number in range(40)]
+        self.put("own.s", "".join(f"    .globl {name}\n{name}:\n    nop\n" for name in names))
+        build(self.folder, "a.elf", "own.s")
+        self.put("counts.log", "".join(f"count HS {RAM + 4 * at:016x} hgatp - times {at}\n" for at in range(40)))
+        self.check_plain(self.profile("--log", "counts.log", "--functions", "out.svg", self.path), 0)
+        _, texts = self.texts("out.svg")
+        self.assertEqual(texts[2::2], [*names[:15:-1], "16 other functions"])
+        self.assertEqual(texts[-1], "15.4 %")
 
     @needs("callgrind_annotate")
     def test_inlined_calls(self):

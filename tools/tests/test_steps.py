@@ -5,7 +5,7 @@ from unittest import mock
 
 from helper import PROGRAM, TOP, ToolTest
 from nesthv_tools import (
-    arrivals, forecasts, foretold_steps, guest_runs, reports, saves, searches, state_cache, state_changes,
+    arrivals, forecasts, foretold_steps, guest_runs, programs, reports, saves, searches, state_cache, state_changes,
     stubs)
 from saved_files import form
 
@@ -49,7 +49,7 @@ class ToldTest(unittest.TestCase):
         self.assertIsNone(reports.told_in(b"usage\n"))
 
 
-@unittest.skipUnless(stubs.beside(PROGRAM), "there is no nesthv-gdb beside the program")
+@unittest.skipUnless(programs.beside(stubs.NAME, PROGRAM), "there is no nesthv-gdb beside the program")
 class StepsTest(ToolTest):
     def runs(self, example, stub=True):
         path = os.path.join(EXAMPLES, example)

@@ -5,8 +5,10 @@ import shutil
 import subprocess
 import sys
 
+from unittest import mock
+
 from helper import LETTER, LOOP, TOOLS, TOP, ToolTest
-from nesthv_tools import qemu
+from nesthv_tools import programs, qemu
 
 PYTHON = [name for name in sorted(os.listdir(TOOLS)) if os.access(os.path.join(TOOLS, name), os.X_OK)
           and os.path.isfile(os.path.join(TOOLS, name)) and name != "test"]
@@ -22,7 +24,7 @@ class CommonTest(ToolTest):
     def test_help_of_scripts(self):
         for name in ("examples/run", "examples/check", "examples/build", "examples/words", "examples/u-boot/make",
                      "examples/u-boot/check", "examples/linux/check", "bench/steps.sh",
-                     "bench/folded.sh", "bench/compare.sh", "bench/work.sh", "bench/save.sh",
+                     "bench/folded.sh", "bench/compare.sh", "bench/work.sh", "bench/save.sh", "bench/trace.sh",
                      "bench/hypervisors.py", "bench/refused.sh", "bench/hostile-outside.sh", "conformance/build",
                      "conformance/run", "dist/make", "dist/check", "dist/sources", "dist/package", "docs/book", "docs/clauses",
                      "docs/commands", "docs/names", "tools/test"):
@@ -58,6 +60,19 @@ class CommonTest(ToolTest):
                      "conformance/run", "bench/hypervisors.py"]:
             ran = self.tool(older, f"{TOP}/{name}")
             self.assertEqual((ran.returncode, len(ran.lines)), (1, 1), (name, ran.lines))
+
+    def test_other_programs(self):
+        """Another program is in the folder of the one that NESTHV names, or where rt has built both."""
+        script = b"#!/bin/sh\n"
+        for program, other in (("a/nesthv", "a/nesthv-gdb"), ("b/nesthv", "b/nesthv_gdb"),
+                               ("crates/nesthv/out/nesthv", "crates/nesthv_gdb/out/nesthv_gdb")):
+            program, other = (self.put(path, script) for path in (program, other))
+            for path in (program, other):
+                os.chmod(path, 0o755)
+            with mock.patch.dict(os.environ, {"NESTHV": program}):
+                self.assertTrue(os.path.samefile(programs.companion("nesthv-gdb"), other))
+                self.assertEqual(programs.companion("nesthv-gdb", program), program)
+                self.assertIsNone(programs.companion("nesthv-gdb", "none"))
 
     def test_output_that_is_lost(self):
         """A script whose output cannot be written says so, and does not end with 0."""

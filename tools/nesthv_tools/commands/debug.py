@@ -16,7 +16,8 @@ import sys
 from argparse import Namespace
 from typing import Any
 
-from nesthv_tools import command_line, debuggers, faults, image_configurations, programs, streams
+from nesthv_tools import (
+    command_line, debuggers, faults, image_configurations, programs, streams, stubs)
 from nesthv_tools.commands import run
 
 USAGE = "%(prog)s [OPTION]... CONFIG [GUEST] [-- WORD...]"
@@ -128,7 +129,7 @@ def started(words: list[str]) -> int:
 def main() -> int:
     options = options_of_words()
     try:
-        stub = programs.companion("nesthv-gdb", options.stub)
+        stub = programs.companion(stubs.NAME, options.stub)
         if not stub:
             raise Refused(f"{options.stub} is not a program" if options.stub else
                           "there is no nesthv-gdb: tools/install puts it beside nesthv, and --stub PATH "

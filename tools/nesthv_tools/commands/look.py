@@ -19,12 +19,15 @@ commands:
   first-trap [N]     the first trap, or the Nth, with why it was taken: the walk of the address that it is
                      about, or what lets an interrupt come
   last-trap          the last one up to --step, and since when there were none but such
-  entered [FROM TO]  each entry into V = 1, and what the guest's guest finds other than when it was left
+  entered [FROM TO]  each entry into V = 1, and what the guest's guest finds other than when it was left; a
+                     `!` marks what an exit that is not a call should have left
   diff CONFIG2 [GUEST2]
                      a state in which two runs differ that were the same before it, and in what
   fences [FROM TO]   whether the report rests on a translation that the guest should have fenced
+  doctor             does what the list below says, and tells what it finds, the worst first
 
 where to begin, by what the report says:
+  you do not know                doctor
   running, and no byte more      last-trap; where there is none, trace the last steps: it loops
   waiting                        at end: what is pending, and why it is not taken
   stopped, by its own handler    last-trap
@@ -33,10 +36,11 @@ where to begin, by what the report says:
   right here, and not elsewhere  fences
 
 Addresses are hexadecimal, and may be a register's name; numbers of steps are decimal. The status is 0; 1
-where `first`, `first-trap`, `last-trap` and `diff` find nothing, or `fences` finds something; or 2 where
-there is nothing to look at. `trace` makes each step. The other commands find traps fast by other values of
-stvec and vstvec: a guest that reads one of them, changes it, and writes the same back may hide the traps
-between from them, but not from `trace`.
+where `first`, `first-trap`, `last-trap` and `diff` find nothing, or `fences` or `doctor` finds something; or
+2 where there is nothing to look at. Where nesthv-trace stands beside the program, traps, entries and steps
+are found by its log, without which there is no `doctor`. Else `trace` makes each step, and the other commands
+find traps by other values of stvec and vstvec: a guest that reads one of them, changes it, and writes the
+same back may hide the traps between from them, but not from `trace`.
 """
 import os
 from argparse import Namespace
@@ -44,10 +48,9 @@ from collections.abc import Callable, Iterator
 from typing import NamedTuple
 
 from nesthv_tools import (
-    command_line, drawing, event_logs, faults, fences, guest_runs, image_configurations, logged_traps,
-    presentation, programs, registers, registers_at, reports, saves, searches, sessions, state_cache,
-    state_changes, streams, trap_causes, visits, walks, whole_files)
-from nesthv_tools.presentation import Value
+    command_line, faults, guest_runs, image_configurations, logged_bytes, logged_traps, presentation, programs,
+    registers, reports, saves, searches, sessions, shown_traps, state_cache, state_changes, streams,
+    trap_causes, walks, whole_files)
 from nesthv_tools.sessions import Session
 
 USAGE = "%(prog)s [OPTION]... CONFIG [GUEST] COMMAND [WORD]..."
@@ -61,11 +64,14 @@ EXAMPLES = """examples:
   %(prog)s kernel.toml diff other.toml
   %(prog)s kernel.elf --steps 5000 last-trap
   %(prog)s hypervisor.toml fences
+  %(prog)s hypervisor.toml doctor           what is wrong, as far as the run shows it
 """
 COUNTS = {"at": [1], "walk": [1], "maps": [0], "first": [2, 3], "trace": [2], "traps": [0, 2],
-          "first-trap": [0, 1], "last-trap": [0], "entered": [0, 2], "diff": [1, 2], "fences": [0, 2]}
+          "first-trap": [0, 1], "last-trap": [0], "entered": [0, 2], "diff": [1, 2], "fences": [0, 2],
+          "doctor": [0]}
 OF_ONE_STATE = ("at", "walk", "maps")
 MODES = ["HS", "U", "VS", "VU"]
+# A tool compiles its modules each time, so what one command alone needs is imported in its function.
 PROBES = 16  # of two runs that are the same at their end
 NOTHING = 1
 say = streams.say
@@ -83,6 +89,7 @@ def options_of_words() -> Namespace:
     parser.add_argument("--svg", metavar="FILE", help="`maps` writes a drawing to this file")
     parser.add_argument("--most", type=command_line.number(0, 1000000), default=0, metavar="N",
                         help="at how many entries `fences` drops translations; at all if left out, or 0")
+    parser.add_argument("--first", action="store_true", help="`fences` ends with the first that it finds")
     parser.add_argument("--elf", metavar="FILE", action="append", default=[],
                         help="one more ELF file with symbols, as of a nested kernel")
     parser.add_argument("--json", action="store_true",
@@ -160,6 +167,7 @@ def show_walk(session: Session, words: list[str]) -> int:
 def show_maps(session: Session, words: list[str]) -> int:
     found = presentation.maps_of(session.state(session.options.step))
     if session.options.svg:
+        from nesthv_tools import drawing
         whole_files.write(session.options.svg, drawing.svg_of(found).encode())
         return 0
     session.print(found, presentation.lines_of_maps(found))
@@ -195,6 +203,19 @@ def condition_of(words: list[str], saved: saves.Saved) -> Condition:
                      False, False)
 
 
+def first_step(session: Session, words: list[str], holds: searches.Holds) -> int:
+    """The step that is found by halves; where the bytes of the console are counted, its last part by the
+    log."""
+    runs, low, high = session.runs, session.runs.first, session.end()
+    if words[0] == "console" and runs.tracer:
+        width = logged_bytes.WINDOW * runs.guest.blocks
+        low, high = searches.narrowed(holds, low, high, width, session.tell)
+        step = logged_bytes.step_with(runs, sessions.number_of(words[1], "number"), low, high)
+        if step is not None:
+            return step
+    return searches.first_step(holds, low, high, session.tell)
+
+
 def show_first(session: Session, words: list[str]) -> int:
     """Finds the first state in which something holds, by halves."""
     runs = session.runs
@@ -207,7 +228,7 @@ def show_first(session: Session, words: list[str]) -> int:
         session.print({"step": None}, [what if stays else what + "; whether it did before is not known"])
         return NOTHING
     else:
-        step = searches.first_step(lambda step: holds(shown(step)), runs.first, session.end(), session.tell)
+        step = first_step(session, words, lambda step: holds(shown(step)))
     before = runs.at(step - 1) if step > runs.first else None
     lines = [f"step {step}"] + ([f"made by {session.line(before)}"] if before else [])
     if before and not stays:
@@ -255,12 +276,6 @@ def show_trace(session: Session, words: list[str]) -> int:
     return 0
 
 
-def trap_at(session: Session, step: int) -> tuple[saves.Saved, Value | None]:
-    """The trap that leads to the state at this step, and the state before it."""
-    before, after = (session.runs.at(each) for each in (step - 1, step))
-    return before, state_changes.trap_of(before, after)
-
-
 def finder_of(session: Session) -> searches.Traps | logged_traps.Traps:
     names = ("stvec", "vstvec")
     if session.runs.tracer:
@@ -277,34 +292,12 @@ def traps_from(session: Session, start: int, end: int) -> Iterator[int]:
         found = finder.next(found.step, end)
 
 
-def short_trap(session: Session, step: int) -> tuple[Value, str]:
-    """The trap that leads to the state at this step, as a value and as a line."""
-    before, trap = trap_at(session, step)
-    line = f"{session.line(before)}  {presentation.line_of_trap(trap) if trap else 'a trap'}"
-    return {"step": step - 1, "mode": before.mode(), "pc": before.numbers["pc"],
-            "instruction": session.instruction(before), "trap": trap}, line
-
-
-def logged_trap(session: Session, line: event_logs.Line, word: int | None) -> tuple[Value, str] | None:
-    """The same of a trap in the log and the word of its instruction, or none where a state has to tell it."""
-    pc, trap = line.number("pc"), logged_traps.value_of(line)
-    symbol = None if word is None else session.symbols.symbol_at_virtual(word, pc, line.is_nested())
-    if word is None or symbol is None:
-        return None
-    session.disassembler.learn([word])
-    instruction = {"word": word, "symbol": symbol, "text": session.disassembler.text_of(word, pc), "why": ""}
-    shown = presentation.line_of_instruction(pc, instruction)
-    value = {"step": line.step, "mode": line.mode, "pc": pc, "instruction": instruction, "trap": trap}
-    return value, f"{line.step} {line.mode} {shown}  {presentation.line_of_trap(trap)}"
-
-
 def show_traps(session: Session, words: list[str]) -> int:
     start, end = span_of(session, words)
     if session.runs.tracer:
-        shown = (logged_trap(session, line, word) or short_trap(session, line.step + 1)
-                 for line, word in logged_traps.with_words(session.runs, start, end))
+        shown = shown_traps.logged_traps_of(session, start, end)
     else:
-        shown = (short_trap(session, step) for step in traps_from(session, start, end))
+        shown = (shown_traps.short_trap(session, step) for step in traps_from(session, start, end))
     for value, text in shown:
         session.print(value, [text])
     return 0
@@ -318,7 +311,7 @@ def show_first_trap(session: Session, words: list[str]) -> int:
     for step in traps_from(session, session.runs.first, session.runs.last):
         count += 1
         if count == wanted:
-            session.print(*whole_trap(session, step))
+            session.print(*shown_traps.whole_trap(session, step))
             return 0
     found = "1 trap is" if count == 1 else f"{count} traps are"
     session.print({"trap": None}, [f"{found} found up to step {session.end()}, the end"])
@@ -332,7 +325,7 @@ def show_last_trap(session: Session, words: list[str]) -> int:
     if step is None:
         session.print({"trap": None}, [f"no trap is found up to step {end}"])
         return NOTHING
-    value, lines = whole_trap(session, step)
+    value, lines = shown_traps.whole_trap(session, step)
     trap = value["trap"]
     since = trap_causes.repetition_of(session, session.runs.at(step), trap) if trap else None
     value.update(since=since, before=None)
@@ -340,59 +333,16 @@ def show_last_trap(session: Session, words: list[str]) -> int:
         lines.append(f"{' '.join(trap_causes.registers_of(trap))}: the same from step {since} on")
         other = finder.last(since - 1)
         if other:
-            value["before"], line = short_trap(session, other)
+            value["before"], line = shown_traps.short_trap(session, other)
             lines.append(f"the trap before these: {line}")
     session.print(value, lines)
     return 0
 
 
-def whole_trap(session: Session, step: int) -> tuple[Value, list[str]]:
-    """A trap, as a value and as lines, with why it was taken, or the walk of the address of a fault."""
-    before, trap = trap_at(session, step)
-    instruction = session.instruction(before)
-    lines = [f"taken at {session.line(before)}", presentation.line_of_trap(trap) if trap else "a trap"]
-    value: Value = {"step": step, "instruction": instruction, "trap": trap, "reasons": [], "walk": None}
-    if trap:
-        value["reasons"] = trap_causes.reasons_of(session, before, instruction["word"], trap)
-        lines += [f"  {words}" for words in value["reasons"]]
-    if trap and trap["cause"] in (1, 5, 7, 12, 13, 15, 20, 21, 23):
-        view = walks.view_of_access(before, instruction["word"])
-        found = presentation.translation_of(walks.Translation(view, trap["tval"]), before)
-        value["walk"] = found
-        lines += presentation.lines_of_translation(found)
-    return value, lines
-
-
 def show_entered(session: Session, words: list[str]) -> int:
     """Shows the entries into V = 1, and what has changed for each guest's guest since it was left."""
-    left: dict[int, tuple[registers_at.State, Value | None]] = {}
-    start, end = span_of(session, words)
-    with registers_at.shown(session.runs, start, end) as at:
-        for visit in visits.visits_of(session.runs, start, end, session.tell):
-            after = at(visit.entry)
-            key = after.numbers["hgatp"]
-            session.print(*entry_of(after, left.get(key)))
-            if visit.left is not None:
-                left[key] = at(visit.left), visit.trap or trap_at(session, visit.left + 1)[1]
-    return 0
-
-
-def entry_of(after: registers_at.State,
-             left: tuple[registers_at.State, Value | None] | None) -> tuple[Value, list[str]]:
-    """An entry into V = 1, as a value and as lines; `left` is the last state before, and its trap."""
-    key = after.numbers["hgatp"]
-    value = {"step": after.numbers["steps"], "mode": after.mode(), "pc": after.numbers["pc"], "hgatp": key,
-             "left_at": None, "trap": None, "changes": []}
-    guest = f"VMID {key >> 44 & 0x7F}" if key else "hgatp Bare"
-    line = f"{value['step']} {value['mode']} {value['pc']:016x}  {guest}, "
-    if not left:
-        return value, [line + "first in these steps"]
-    before, trap = left
-    value.update(left_at=before.numbers["steps"], trap=trap, changes=[])
-    changes = visits.changes(before, after)
-    value["changes"] = [each.value() for each in changes]
-    line += f"left at {value['left_at']} by {trap['words'] if trap else 'a trap'}"
-    return value, [line + "".join(f"  {each.line('->')}" for each in changes)]
+    from nesthv_tools import shown_entries
+    return shown_entries.shown(session, *span_of(session, words))
 
 
 def both_at(one: guest_runs.Runs, other: guest_runs.Runs, step: int) -> tuple[saves.Saved, saves.Saved]:
@@ -433,7 +383,7 @@ def show_diff(session: Session, words: list[str]) -> int:
         try:
             return compare(session, other)
         finally:
-            other.runs.close()
+            other.close()
 
 
 def compare(session: Session, other: Session) -> int:
@@ -466,39 +416,20 @@ def compare(session: Session, other: Session) -> int:
 
 def show_fences(session: Session, words: list[str]) -> int:
     """Says whether dropped translations change the report, and where."""
-    start, end = span_of(session, words)
-    search = fences.Search(session, start, end, session.options.most)
-    for value in search.findings():
-        if not session.options.json:
-            print("\n".join(fences.lines_of(value)), flush=True)
-    changed, until = len(search.changing), search.cut
-    if until is None and end < session.end():
-        until = end
-    where = "the end" if until is None else f"step {until}"
-    where += ": --most N looks at more" if search.cut is not None or search.is_swept else ""
-    line = f"{search.shown()} the report, {'all in one run, ' if search.is_swept else ''}up to {where}"
-    steps = ", ".join(map(str, sorted(search.changing)))
-    lines = [line + (f"; those at step {steps}" if changed > 1 else "")]
-    if search.together:
-        lines.append("but the run with all of them has another report:")
-        lines += [f"  {words}" for words in search.together]
-    if changed or search.together:
-        lines.append("the standard permits each of these runs, and the guest's fences do not decide between "
-                     "them")
-    elif not search.count:
-        at = "no translation is cached at an entry into V = 1"
-        if session.runs.start.has_first():
-            at += ", and none of satp at any other of these steps"
-        lines.append(at + ", so there is nothing to drop")
-    session.print({"drops": search.count, "changing": changed, "in_one_run": search.is_swept,
-                   "together": search.together, "looked_up_to": until,
-                   "found": list(search.found.values())}, lines)
-    return NOTHING if changed or search.together else 0
+    from nesthv_tools import fences
+    return fences.shown(session, *span_of(session, words))
+
+
+def show_findings(session: Session, words: list[str]) -> int:
+    """Says what seems to be wrong."""
+    from nesthv_tools import doctor
+    return doctor.shown(session)
 
 
 COMMANDS = {"at": look_at, "walk": show_walk, "maps": show_maps, "first": show_first, "trace": show_trace,
             "traps": show_traps, "first-trap": show_first_trap, "last-trap": show_last_trap,
-            "entered": show_entered, "diff": show_diff, "fences": show_fences}
+            "entered": show_entered, "diff": show_diff, "fences": show_fences,
+            "doctor": show_findings}
 
 
 def main() -> int:
@@ -519,4 +450,4 @@ def main() -> int:
         return 2
     finally:
         if session:
-            session.runs.close()
+            session.close()

@@ -19,7 +19,7 @@ from typing import BinaryIO, NamedTuple
 
 from nesthv_tools import (
     code_places, command_line, debuggers, elf_images, event_logs, faults, image_configurations, profiles,
-    programs, streams, tracers)
+    programs, streams, timeline_drawing, tracers)
 from nesthv_tools.code_places import Code
 from nesthv_tools.commands import debug, run
 from nesthv_tools.executed_code import Files
@@ -29,10 +29,11 @@ EXAMPLES = """examples:
   %(prog)s hypervisor.toml --exits
   %(prog)s hypervisor.toml --svg run.svg --timeline run.json
   %(prog)s kernel.elf --callgrind run.callgrind && callgrind_annotate run.callgrind
+  %(prog)s kernel.elf --functions functions.svg
   %(prog)s kernel.toml --lcov run.info && genhtml run.info --output-directory coverage
   nesthv-trace kernel.toml 0 worlds >run.log && %(prog)s --log run.log --exits
 """
-OUTPUTS = ("callgrind", "lcov", "timeline", "svg")
+OUTPUTS = ("callgrind", "functions", "lcov", "timeline", "svg")
 MOST_STEPS = 1 << 52
 HGATP = re.compile("([0-9a-f]{1,16})=(.+)")
 
@@ -59,6 +60,8 @@ def add_outputs(parser: command_line.Parser) -> None:
     group.add_argument("--callgrind", metavar="FILE",
                        help="instructions by function and line, with a cost for each mode, for kcachegrind "
                        "and callgrind_annotate")
+    group.add_argument("--functions", metavar="FILE",
+                       help="a picture of the functions that made most instructions, in each mode")
     group.add_argument("--lcov", metavar="FILE",
                        help="coverage of the sources, by line and function, for genhtml and lcov")
     group.add_argument("--exits", action="store_true",
@@ -68,6 +71,10 @@ def add_outputs(parser: command_line.Parser) -> None:
                        help="which world ran when, with traps, fences, inputs and stale uses of "
                        "translations, as JSON of Chrome's trace events, for Perfetto")
     group.add_argument("--svg", metavar="FILE", help="the same as a picture")
+    group.add_argument("--columns", metavar="N", type=command_line.number(1, timeline_drawing.COLUMNS),
+                       default=timeline_drawing.COLUMNS,
+                       help="how many columns the picture of --svg has at most, so that its file is small; "
+                       "%(default)s if left out")
 
 
 def options_of_words() -> Namespace:
@@ -103,7 +110,8 @@ def refuse(parser: command_line.Parser, options: Namespace) -> None:
     """Refuses options that do not fit together."""
     paths = [path for path in (getattr(options, name) for name in OUTPUTS) if path]
     if not paths and not options.exits:
-        parser.error("there is nothing to make: give one of --callgrind, --lcov, --exits, --timeline, --svg")
+        names = ", ".join(f"--{name}" for name in (*OUTPUTS, "exits"))
+        parser.error(f"there is nothing to make: give one of {names}")
     if not options.config and not options.log:
         parser.error("the following arguments are required: CONFIG, or --log FILE")
     if options.log and not (options.start is None and options.end is None and options.trace is None):
