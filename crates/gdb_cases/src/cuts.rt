@@ -11,11 +11,11 @@ use std::alloc::Global;
 pub enum Cut {
     /// Each byte comes alone.
     Bytes,
-    /// No more than so many bytes come.
+    /// The input ends after a number of bytes.
     End(usize),
-    /// The read behind so many bytes fails.
+    /// The read behind a number of bytes fails.
     ReadFault(usize),
-    /// No more than so many bytes are sent.
+    /// The output takes a number of bytes and no more.
     WriteFault(usize),
 }
 
