@@ -11,7 +11,7 @@ MODES = ("HS", "U", "VS", "VU")  # in the order of counts
 KINDS = ("traps", "worlds", "calls", "fences", "fills", "stale", "steps", "counts")
 LONGEST = 320  # bytes of a line
 AT_ONCE = 1 << 20  # bytes that are read
-SHOWN = 60  # characters of a line that is no line of a log
+SHOWN = 60  # characters of a text that is not a line of a log
 
 HEX, OPTIONAL, DECIMAL = "[0-9a-f]{1,16}", "(?:-|[0-9a-f]{1,16})", "(?:0|[1-9][0-9]{0,19})"
 MODE, PC = "(?P<mode>HS|U|VS|VU)", "(?P<pc>[0-9a-f]{16})"
@@ -201,7 +201,7 @@ class Log:
 
 
 def why_no_line(text: bytes) -> str:
-    """What is wrong with a text that is no line of a log."""
+    """What is wrong with a text that is not a line of a log."""
     shown = terminal.line_of(text.rstrip(b"\n")[:SHOWN + 1].decode(errors="backslashreplace"))
     shown = shown[:SHOWN] + "..." if len(shown) > SHOWN else shown
     return f"is not one that nesthv-trace writes: {shown}"
