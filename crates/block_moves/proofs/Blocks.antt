@@ -22,7 +22,7 @@ blocks_apart a b other frame named = by (cases_Bool (in_blocks (b ∷ []) frame)
     by (inl is) = absurd (other (one_block a frame named ∙ sym (one_block b frame is)))
     by (inr free) = free
 
-first_frame : (block : ℕ) → block ≡ block * 512 / 512
+pub first_frame : (block : ℕ) → block ≡ block * 512 / 512
 first_frame block = omega arith
 
 -- a block that is apart from a part is none of its blocks

@@ -16,8 +16,8 @@ use host_tables::build;
 use phys_mem::PhysMem;
 use shadow_pool::Pool;
 
-/// Moves block `i` of a guest's RAM to the block `to` of machine memory, which no frame of the part is in:
-/// copies its bytes, and changes the host table and the folded leaves of the guest's spaces, which name it.
+/// Moves block `i` of a guest's RAM to the block `to` of machine memory, which no frame of the part is in. It
+/// copies the bytes, and changes the host table and the folded leaves of the guest's spaces, which name it.
 /// The old block is zeros then. Answers the part that the guest has now.
 pub fn move_block(mem: &mut PhysMem, part: &Part, pool: &mut Pool, i: usize, to: u32) -> Part
     requires held { IsHeld part.now mem.old }

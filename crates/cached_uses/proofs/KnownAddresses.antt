@@ -1,6 +1,5 @@
 -- The uses of an access, by whether its address is known.
 use Rattle.std.proofs.Common.{◌≡◌, refl, sym, ap, ap₂, ◌∙◌, ℕ, ◌/◌, ◌%◌, ◌==◌, Bool, true, false, cond, List, [], ◌∷◌, ◌++◌, Option, Some, None, find, option_map}
-use Rattle.std.specs.List.{flat_map}
 use Rattle.arch_defs.specs.declared.cached.Entry.{Entry}
 use Rattle.arch_defs.specs.declared.first.FirstEntry.{FirstEntry}
 use Rattle.arch_defs.specs.declared.modes.Access.{Access}
@@ -21,16 +20,12 @@ use Rattle.arch_defs.specs.Walk.{leaf_address}
 use Rattle.arch_defs.specs.WalkedEntries.{folds}
 use Rattle.arch_defs.specs.Widths.{bytes_in}
 use Rattle.machine_defs.specs.FirstLeaves.{known_of, tag_of}
-use Rattle.run_log.specs.declared.uses.Use.{Use}
-use Rattle.run_log.specs.declared.uses.Use.TheVariants.{First, Second}
+use Rattle.run_log.specs.declared.uses.Use.TheVariants.{First}
 use Rattle.run_log.specs.Uses.{access_uses, entries_read, first_if, first_under, first_uses, passed_uses, second_uses, uses_if_known}
+use Rattle.run_log.proofs.Uncached.{none_of_each}
 use Rattle.cached_uses.specs.Serving.{first_list, first_permitted, first_served, first_served_under, mmu_through, walked_uses}
 
 -- in a state that does not fold no use is one of the second stage
-none_of_each : (f : ℕ → List Use) → ((x : ℕ) → f x ≡ []) → (xs : List ℕ) → flat_map f xs ≡ []
-none_of_each f none [] = refl
-none_of_each f none (x ∷ xs) = ap₂ (λ a b. a ++ b) (none x) (none_of_each f none xs)
-
 second_unfolded : (virt : Virtual) (entries : List Entry) (address : ℕ) (kind : Access) → folds virt ≡ false → second_uses virt entries address kind ≡ []
 second_unfolded virt entries address kind not_folding = rw not_folding refl
 

@@ -76,7 +76,8 @@ MachinesGoThrough = (m : Machine)
 -- an entry's frame is in memory, or is that of the device page
 pub record LeadsInto (memory : Memory) (e : Entry) : Type 0 where
   pub small : e.frame < 2 ^ 44
-  pub frame : ((memory.base ≤ e.frame * 4096) × (e.frame * 4096 + 4096 ≤ memory.base + length memory.bytes))
+  pub frame : ((memory.base ≤ e.frame * 4096)
+      × (e.frame * 4096 + 4096 ≤ memory.base + length memory.bytes))
       ⊎ (e.frame ≡ device_frame)
 
 -- so are those that can be filled for a guest of a number of blocks

@@ -15,7 +15,8 @@ use Rattle.run_log.specs.Uses.{access_uses, data_next, data_uses, uses}
 use Rattle.cached_uses.specs.Serving.{mmu_through}
 
 -- those of its fetch, and then of the access to data that it wants; none, where an interrupt is due
-abbrev pub uses_unless_due : Virtual → List Entry → Memory → Option DataAccess → Option ℕ → List Use
+abbrev pub uses_unless_due : Virtual → List Entry → Memory → Option DataAccess → Option ℕ
+    → List Use
 uses_unless_due virt entries memory wanted (Some code) = []
 uses_unless_due virt entries memory wanted None = let through = mmu_through virt entries memory in
     access_uses virt entries through virt.regs.pc Word Fetch ++ data_uses virt entries through wanted

@@ -20,7 +20,8 @@ use two_stage_walk::{entry_by_walk, first_leaf, leaf_address};
 // The leaf of an address's one page.
 fn page_leaf(va: u64, leaf: &LeafPte) -> Leaf
     requires { LeafFits most_levels leaf.now }
-    ensures { (tag : Tag) (atp : SupervisorRoot) → result ≡ leaf_of_first (first_entry tag atp va leaf.now) }
+    ensures { (tag : Tag) (atp : SupervisorRoot)
+        → result ≡ leaf_of_first (first_entry tag atp va leaf.now) }
 {
     Leaf {
         frame: leaf_address(leaf, va) / 4096,
@@ -54,8 +55,8 @@ fn shown(entry: Option<Entry>) -> Option<Leaf>
     }
 }
 
-/// What the tables give for the access of a use, of a guest that has the device page or not: by the walk of
-/// both stages as the registers and RAM are.
+/// What the tables give for the access of a use, by the walk of both stages as the registers and RAM are. The
+/// guest has the device page or not.
 pub fn leaf_by_tables<M: Mem>(device: bool, virt: &Virtual, mem: &M, used: &Use) -> Option<Leaf>
     requires backed { M.is_backed mem.now }
     requires ram { M.memory mem.now ≡ ram_memory (M.memory mem.now).bytes }

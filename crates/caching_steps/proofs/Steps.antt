@@ -1,22 +1,18 @@
 -- What the notes of the steps of a run tell.
-use Rattle.std.specs.List.{All, list_any}
+use Rattle.std.specs.List.{All}
 use Rattle.std.specs.Option.{option_or}
-use Rattle.std.proofs.Common.{arith, ◌≡◌, refl, sym, ap, ◌∙◌, subst, true≢false, ℕ, zero, suc, ◌+◌, ◌<◌, ◌≤◌, ◌==◌, ◌&&◌, nat_le, Bool, true, false, cond, List, [], ◌∷◌, ◌++◌, Option, Some, None, get_or, length, map}
+use Rattle.std.proofs.Common.{arith, ◌≡◌, refl, sym, ap, ◌∙◌, subst, true≢false, ℕ, zero, suc, ◌+◌, ◌≤◌, Bool, true, false, cond, List, [], ◌∷◌, ◌++◌, Option, Some, None, get_or, map}
 use Rattle.std.proofs.lemmas.Bool.{le-leb, lt-leb}
 use Rattle.std.proofs.lemmas.List.Elements.{All-head, All-tail, All-weaker}
 use Rattle.arch_defs.specs.declared.cached.Entry.{Entry}
 use Rattle.arch_defs.specs.declared.first.FirstEntry.{FirstEntry}
-use Rattle.arch_defs.specs.declared.modes.Access.{Access}
 use Rattle.arch_defs.specs.declared.roots.GuestRoot.{GuestRoot}
-use Rattle.arch_defs.specs.FirstEntries.{is_first_of}
-use Rattle.arch_defs.specs.Roots.{is_root}
 use Rattle.arch_defs.specs.Spaces.{Space, front}
-use Rattle.arch_defs.specs.WalkedEntries.{folds}
 use Rattle.guest_settings.specs.declared.statuses.Status.TheVariants.{Running}
 use Rattle.machine_defs.specs.Fills.{after_fill, after_fills, fill, missing_entry, most_fills, ready}
 use Rattle.machine_defs.specs.Freshness.{found_by_status, found_if_ended, next_found}
 use Rattle.machine_defs.specs.Machine.{Machine, Platform}
-use Rattle.machine_defs.specs.Runs.{left_after, run, step, stepped}
+use Rattle.machine_defs.specs.Runs.{left_after, run}
 use Rattle.machine_defs.specs.Tries.{found_by_try, stages_of, try}
 use Rattle.instruction_laws.specs.FrontSpaces.{FrontIs}
 use Rattle.instruction_laws.proofs.Cached.{lacked}
@@ -26,15 +22,15 @@ use Rattle.fill_laws.specs.Keeping.{IsOrderly}
 use Rattle.fill_laws.proofs.EachEntry.{front_each, front_has, tried_each}
 use Rattle.fill_laws.proofs.Filling.{only_spaces}
 use Rattle.fill_laws.proofs.Orderly.{fill_stays_orderly, filled_orderly, stays_orderly}
-use Rattle.fill_laws.proofs.Running.{next_run}
+use Rattle.fill_laws.proofs.Running.{next_run, step_running}
 use Rattle.run_log.specs.declared.uses.Use.{Use}
 use Rattle.run_log.specs.Fills.{filled_by_status, filled_then, filled_within, next_filled}
-use Rattle.run_log.specs.Stale.{last_where, since_of}
+use Rattle.run_log.specs.Stale.{since_of}
 use Rattle.run_log.specs.Uses.{uses}
 use Rattle.caching_steps.specs.declared.notes.CachedName.{CachedName}
 use Rattle.caching_steps.specs.declared.notes.Note.{Note}
 use Rattle.caching_steps.specs.Noting.{first_name, used_name, noted_step, second_name, step_if}
-use Rattle.caching_steps.specs.Remembering.{Remembers, RemembersAlike, RemembersAtStart, RemembersOn, TellsSince, TellsStep, TellsAlike, cached_last, caches_name, fill_notes, found_notes, notes_of}
+use Rattle.caching_steps.specs.Remembering.{Remembers, RemembersAlike, RemembersAtStart, RemembersOn, TellsSince, TellsStep, cached_last, caches_name, fill_notes, found_notes, notes_of}
 use Rattle.caching_steps.proofs.Matching.{are_noted, first_in, first_is_no_second, first_matches, noted_with, second_in, second_is_no_first, second_matches}
 use Rattle.caching_steps.proofs.UsedOnes.{FirstHave, SecondHave, used_have}
 
@@ -93,10 +89,6 @@ found_are : (m : Machine) → m.platform.status ≡ Running
     → next_found m ≡ found_if_ended (found_by_try (stages_of (ready m)) (ready m)) (try (ready m))
 unfolding next_found
 found_are m running = ap (found_by_status (ready m)) running
-
-step_is : (m : Machine) → m.platform.status ≡ Running → step m ≡ left_after (ready m)
-unfolding step
-step_is m running = ap (stepped m) running
 
 ready_platform : (m : Machine) → (ready m).platform ≡ m.platform
 ready_platform m = ap (λ (t : Machine). t.platform) (only_spaces m (most_fills m))
@@ -160,7 +152,7 @@ module _ (origin : Machine) (from n : ℕ) (notes : List Note) (is : IsOrderly o
       (ready now).spaces second_ready)
 
   remembers_next : Remembers origin from (suc n) all
-  remembers_next = let same : run origin (suc n) ≡ left_after (ready now) = sym (next_run origin n) ∙ step_is now running in record {
+  remembers_next = let same : run origin (suc n) ≡ left_after (ready now) = sym (next_run origin n) ∙ step_running now running in record {
     first = subst (λ (t : Machine). All FirstTold t.platform.virt.first) (sym same) first_left;
     second = subst (λ (t : Machine). EachEntry SecondTold t.spaces) (sym same) second_left;
   }

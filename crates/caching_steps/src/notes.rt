@@ -11,8 +11,8 @@ use run_log::Use;
 use std::alloc::Global;
 use std::marker::Model;
 
-/// What names a cached translation: its page, and for the first stage for whose accesses it is and the whole
-/// of satp or vsatp; for the second the whole of hgatp.
+/// What names a cached translation: its page; and in the first stage for whose accesses it is and the whole
+/// of satp or vsatp, in the second the whole of hgatp.
 #[derive(Clone, Copy)]
 pub enum CachedName {
     First(Tag, SupervisorRoot, u64),

@@ -52,14 +52,13 @@ walked_of_device device csrs ram address kind e found = by csrs.hgatp found
 filled_of_device : (m : Machine) (e : Entry) → missing_entry m ≡ Some e → IsOfDevice m.device m.platform.virt.csrs.hgatp e
 filled_of_device m e is = let at = (lacked m e is).1 in walked_of_device m.device m.platform.virt.csrs m.ram at.0.address at.0.kind e at.1
 
-each_front : (Q : Type 0) → Q → (spaces : List Space) → FrontHas (λ key. Q) spaces
-each_front Q holds [] = tt
-each_front Q holds (s ∷ ss) = holds
-
 -- so it stays after a fill
 pub fill_keeps_device : (m : Machine) (e : Entry) → CachesOwnDevice m → missing_entry m ≡ Some e → CachesOwnDevice (fill m e)
-fill_keeps_device m e all lacks = front_each (IsOfDevice m.device) m.entry_room m.spaces e all
-    (each_front (IsOfDevice m.device m.platform.virt.csrs.hgatp e) (filled_of_device m e lacks) m.spaces)
+fill_keeps_device m e all lacks = front_each (IsOfDevice m.device) m.entry_room m.spaces e all (by m.spaces)
+  where
+    by : (spaces : List Space) → FrontHas (λ key. IsOfDevice m.device key e) spaces
+    by [] = tt
+    by (s ∷ ss) = filled_of_device m e lacks
 
 -- and after a try, which leaves whether there is the page
 device_left : (m : Machine) {t : Tried} {fence : Option Fence} → RootEnd m t fence → (left_by m t).device ≡ m.device

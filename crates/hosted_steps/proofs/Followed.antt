@@ -303,8 +303,8 @@ is_fronted part pool m memory at folding =
 blocks_lie_at : (part : Layout) (memory : List ℕ) → IsHeld part memory → LieIn (in_blocks part.blocks) (length memory)
 blocks_lie_at part memory held = first_lies (in_blocks part.blocks) (in_tables part) (length memory) held.lies
 
-lie_of : (part : Layout) (memory : List ℕ) → IsHeld part memory → SlicesLieIn block_size part.blocks (length memory)
-lie_of part memory held = blocks_lie_in part.blocks (length memory) (blocks_lie_at part memory held)
+pub blocks_held : (part : Layout) (memory : List ℕ) → IsHeld part memory → SlicesLieIn block_size part.blocks (length memory)
+blocks_held part memory held = blocks_lie_in part.blocks (length memory) (blocks_lie_at part memory held)
 
 -- what the hart has not cached either is a guest-page fault
 trap_under : (csrs : Csrs) (memory : List ℕ) (missing : MissingPlace) (root : GuestRoot) → is_virtual missing.mode ≡ true → csrs.hgatp ≡ root
@@ -343,7 +343,7 @@ flat_traps part pool m memory missing at flat mode absent =
     let root = root_for part pool v in
     let csrs = hosted_csrs root (is_virtual v.mode) v.csrs in
     let on : is_virtual missing.mode ≡ true = rw mode (virtual_mode v.mode) in
-    let is = ram_is_renamed part.blocks memory (lie_of part memory at.held) at.once.distinct in
+    let is = ram_is_renamed part.blocks memory (blocks_held part memory at.held) at.once.distinct in
     let none : host_answer part.blocks missing.address ≡ None =
     is.places missing.address missing.kind
     ∙ ap (λ ram. option_map (memory_place part.blocks) (bare (ram_memory ram) missing.address missing.kind)) (sym at.ram)
@@ -424,7 +424,7 @@ outcome_follows : (part : Layout) (pool : Pooled) (m : Machine) (memory : List �
     (attempt_of (caching_found (loaded_in part (root_for part pool m.platform.virt) m.platform.virt) found) memory (outcome_renamed (memory_place part.blocks) hart)))
 outcome_follows part pool m memory found lone (Done hart stored event) at lone_is hart_is (e, keeps) (stores, reserves) =
     let v = m.platform.virt in
-    let lie = lie_of part memory at.held in
+    let lie = blocks_held part memory at.held in
     let cached = all_filled v.first found in
     record {
       own = record hart { first = cached };
@@ -468,14 +468,14 @@ SecondRenamed part pool m memory = (address : ℕ) (access : Access)
     → second_of_memory (hart_state_in part (root_for part pool m.platform.virt) m.platform.virt) memory address access ≡ option_map (memory_place part.blocks) (second_of m address access)
 
 size_of : (part : Layout) (m : Machine) (memory : List ℕ) → IsHeld part memory → m.ram ≡ ram_of part.blocks memory → length m.ram ≡ ram_size part.blocks
-size_of part m memory held ram = rw ram (ram_length part.blocks memory (lie_of part memory held))
+size_of part m memory held ram = rw ram (ram_length part.blocks memory (blocks_held part memory held))
 
 flat_renamed : (part : Layout) (pool : Pooled) (m : Machine) (memory : List ℕ) → IsAt part pool m memory → folds m.platform.virt ≡ false → SecondRenamed part pool m memory
 flat_renamed part pool m memory at flat address access =
     let v = m.platform.virt in
     let root = root_for part pool v in
     let csrs = hosted_csrs root (is_virtual v.mode) v.csrs in
-    let is = ram_is_renamed part.blocks memory (lie_of part memory at.held) at.once.distinct in
+    let is = ram_is_renamed part.blocks memory (blocks_held part memory at.held) at.once.distinct in
     ap (λ (second : SecondStage). second address access) (second_is csrs (hosted_mode v.mode) memory root (virtual_mode v.mode) (host_root_of root (is_virtual v.mode) v.csrs))
     ∙ ap (λ table. second_under (machine_memory memory) csrs.hs.status.mxr table address access) (root_flat part pool v flat)
     ∙ gives_ram part at.once memory csrs.hs.status.mxr 0 address access at.held
@@ -506,7 +506,7 @@ view part pool m memory at =
     subst (λ size. GivesWithin (places_from ram_base size) (second_of m)) (size_of part m memory at.held at.ram) (gives_own_ram m at.caches) in
     subst (λ ram. IsRenamed (memory_place part.blocks) (in_ram part.blocks) (second_of m) (reading_of (ram_memory ram))
     (second_of_memory (hart_state_in part (root_for part pool m.platform.virt) m.platform.virt) memory) (reading_of_memory memory)) (sym at.ram)
-    (places_are_renamed part.blocks memory (second_of m) _ (lie_of part memory at.held) at.once.distinct gives (by (folds m.platform.virt) refl))
+    (places_are_renamed part.blocks memory (second_of m) _ (blocks_held part memory at.held) at.once.distinct gives (by (folds m.platform.virt) refl))
   where
     by : (b : Bool) → folds m.platform.virt ≡ b → SecondRenamed part pool m memory
     by true folding = folding_renamed part pool m memory at folding

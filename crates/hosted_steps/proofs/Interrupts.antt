@@ -2,6 +2,7 @@
 use Rattle.std.specs.Prelude.{◌&&◌, ◌||◌, find, not, if◌then◌else◌}
 use Rattle.std.specs.Option.{option_or}
 use Rattle.std.proofs.Common.{cond, ◌≡◌, ℕ, ◌+◌, Option, Some, None, Bool, true, false, refl, ap, ◌∙◌, subst, sym}
+use Rattle.std.proofs.Math.Bool.{and-false}
 use Rattle.arch_defs.specs.declared.modes.Mode.{Mode}
 use Rattle.arch_defs.specs.declared.modes.Mode.TheVariants.{HS, U, VS, VU}
 use Rattle.arch_defs.specs.declared.registers.Csrs.{Csrs}
@@ -29,14 +30,9 @@ or_none None = refl
 or_none (Some code) = refl
 
 -- HS takes none on the hart
-never : (pending enabled : Bool) → (pending && enabled && false) ≡ false
-never true true = refl
-never true false = refl
-never false enabled = refl
-
 none_for_host : (root : GuestRoot) (csrs : Csrs) → find (is_ready_for_hs (hosted_csrs root false csrs)) hs_order ≡ None
 none_for_host root csrs =
-    rw (never csrs.sip.external csrs.sie.external, never csrs.sip.software csrs.sie.software, never csrs.sip.timer csrs.sie.timer)
+    rw (and-false (csrs.sip.external && csrs.sie.external), and-false (csrs.sip.software && csrs.sie.software), and-false (csrs.sip.timer && csrs.sie.timer))
 
 -- VS's on the hart are those of the lone machine's HS
 same_ready : (pending enabled : Bool) → (pending && enabled && true) ≡ ((pending || false) && (enabled || false) && true)

@@ -99,8 +99,8 @@ pub record IsMade (part : Layout) (root : GuestRoot) (m : Machine) (tried : Trie
 
 -- what a step of the hart under a root is to a try of the machine for which it stands, by the first-stage
 -- translations that this finds, and to what the machine lacks
-abbrev pub FollowsTry : Layout → GuestRoot → Machine → List FirstEntry → Tried → Option Entry → List ℕ
-    → HartEnd → Type 0
+abbrev pub FollowsTry : Layout → GuestRoot → Machine → List FirstEntry → Tried → Option Entry
+    → List ℕ → HartEnd → Type 0
 FollowsTry part root m found tried lacks memory (Goes hart changed event) =
     IsMade part root m tried lacks memory hart changed event
 FollowsTry part root m found tried lacks memory (Exits trap) =

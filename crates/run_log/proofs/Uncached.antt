@@ -27,7 +27,7 @@ use Rattle.run_log.specs.Laws.{UncachedUsesNone}
 use Rattle.run_log.specs.declared.uses.Use.{Use}
 use Rattle.run_log.specs.Uses.{access_uses, data_next, data_uses, first_if, first_under, passed_uses, second_if, second_uses, uses, uses_if_known, uses_with}
 
-none_of_each : (f : ℕ → List Use) → ((x : ℕ) → f x ≡ []) → (xs : List ℕ) → flat_map f xs ≡ []
+pub none_of_each : (f : ℕ → List Use) → ((x : ℕ) → f x ≡ []) → (xs : List ℕ) → flat_map f xs ≡ []
 none_of_each f none [] = refl
 none_of_each f none (x ∷ xs) = ap₂ (λ a b. a ++ b) (none x) (none_of_each f none xs)
 

@@ -20,7 +20,7 @@ pub high_bit : (f word : ℕ) → f ≡ funct3 word → field 14 1 word ≡ f / 
 high_bit f word is = omega (arith, is)
 
 -- a word that does not end in 11 is none of the table
-other_opcode : (word opcode_of : ℕ) → nat_eq (word % 4) 3 ≡ false → opcode_of % 4 ≡ 3 → nat_eq (opcode word) opcode_of ≡ false
+pub other_opcode : (word opcode_of : ℕ) → nat_eq (word % 4) 3 ≡ false → opcode_of % 4 ≡ 3 → nat_eq (opcode word) opcode_of ≡ false
 other_opcode word opcode_of other low = ne_eqb (opcode word) opcode_of (λ same. eqb-false (word % 4) 3 other (omega (arith, same, low)))
 
 pub outside : (word : ℕ) → nat_eq (word % 4) 3 ≡ false → None ≡ common_op_of word

@@ -46,7 +46,8 @@ fence_line_of head (Fences fence named) held after =
 fence_line_of head _ held after = None
 
 -- a step, by the registers before and after it, and what it read and wrote in RAM
-abbrev pub step_line_of : Head → Option ℕ → Regs → Regs → Option MemoryValue → Option MemoryValue → Line
+abbrev pub step_line_of : Head → Option ℕ → Regs → Regs → Option MemoryValue → Option MemoryValue
+    → Line
 step_line_of head word before after read stored =
     let numbers = changed_from before after 0 in
     line.Step (record {
