@@ -24,7 +24,8 @@ place_or_trap memory csrs mode va width access =
     answer_of false csrs memory (accessed_by_walk memory csrs mode va width access)
 
 -- its place in memory or on the device page, or its trap, of a machine that has this page or not
-abbrev pub place_or_page : Bool → Memory → Csrs → Mode → ℕ → Width → Access → Result Place Trap
+abbrev pub place_or_page : Bool → Memory → Csrs → Mode → ℕ → Width → Access
+    → Result Place Trap
 place_or_page device memory csrs mode va width access =
     placed device csrs memory (accessed_by_walk memory csrs mode va width access)
 

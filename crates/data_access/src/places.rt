@@ -4,11 +4,13 @@ ghost use Rattle.std.specs.Prelude.{◌≡◌, ◌%◌, ◌==◌, IfOk, length};
 ghost use Rattle.arch_defs.specs.Memory.{reading_of, with_stored};
 ghost use Rattle.arch_defs.specs.Traps.{exception, faults_of};
 ghost use Rattle.arch_defs.specs.Widths.{bytes_in};
-ghost use Rattle.machine_defs.specs.Core.{storing};
+ghost use Rattle.machine_defs.specs.Core.{kind_of, storing};
 ghost use Rattle.phys_mem.specs.MemoryBytes.{IsWhole};
 ghost use Rattle.data_access.specs.Places.{FitsIn, IsPlaceFor, place_or_page, place_or_trap};
 
+use crate::purposes::kind_of;
 use arch_defs::{Access, Csrs, Mode, Trap, Width};
+use op_defs::DataAccess;
 use phys_mem::Mem;
 use two_stage_walk::{Place, locate, translate};
 
@@ -36,7 +38,7 @@ fn shows_whole<M: Mem>(mem: &M)
 }
 
 /// Where in memory an access to a virtual address is made as a mode, by both stages as the registers and
-/// memory are, or its trap, with all that its entry writes. An address that is not a multiple of the width
+/// memory are; or its trap, with all that its entry writes. An address that is not a multiple of the width
 /// traps before it is translated (own).
 #[tactic(auto, using(crate::proofs::Fitting::fits_at))]
 pub fn place_for<M: Mem>(
@@ -65,15 +67,16 @@ pub fn place_or_page<M: Mem>(
     device: bool,
     csrs: &Csrs,
     mode: Mode,
-    va: u64,
-    width: Width,
-    access: Access,
+    wanted: &DataAccess,
 ) -> Result<Place, Trap>
     requires backed { M.is_backed mem.now }
-    ensures answer { result ≡ place_or_page device (M.memory mem.now) csrs.now mode va width access }
-    ensures place { IfOk result (λ place. FitsIn (M.memory mem.now) width place) }
+    ensures answer { result ≡ place_or_page device (M.memory mem.now) csrs.now mode
+        wanted.now.address wanted.now.width (kind_of wanted.now.purpose) }
+    ensures place { IfOk result (λ place. FitsIn (M.memory mem.now) wanted.now.width place) }
 {
-    if is_aligned(va, width) {
+    let va = wanted.address;
+    let access = kind_of(wanted.purpose);
+    if is_aligned(va, wanted.width) {
         shows_whole(mem);
         locate(mem, csrs, mode, va, access, device)
     } else {

@@ -58,8 +58,7 @@ pub fn complete<M: Mem>(
             state.reservation = Some((place, width.bytes()));
         }
         Purpose::StoreReserved { value, rd } => {
-            let reserved = is_reserved(state.reservation, place, width);
-            store_if(reserved, mem, state, width, value, rd, place);
+            store_reserved(mem, state, width, value, rd, place);
         }
         Purpose::Modify { op, operand, rd } => {
             let held = read_at(mem, place, width);
@@ -108,9 +107,8 @@ fn is_reserved(reservation: Option<(u64, u8)>, place: u64, width: Width) -> bool
     }
 }
 
-// SC, where its place is reserved or not.
-fn store_if<M: Mem>(
-    reserved: bool,
+// SC, whether its place is reserved or not.
+fn store_reserved<M: Mem>(
     mem: &mut M,
     state: &mut Virtual,
     width: Width,
@@ -120,14 +118,17 @@ fn store_if<M: Mem>(
 )
     requires backed { M.is_backed mem.old }
     requires place { IsPlaceFor (M.memory mem.old) width place }
-    ensures state { state.new ≡ (stored_if reserved state.old width value rd place).state }
+    ensures state { state.new ≡ (stored_if (is_reserved state.old.reservation place width)
+        state.old width value rd place).state }
     ensures bytes { (M.memory mem.new).bytes ≡ with_stored (M.memory mem.old).base
-        (stored_if reserved state.old width value rd place).stored (M.memory mem.old).bytes }
+        (stored_if (is_reserved state.old.reservation place width)
+        state.old width value rd place).stored (M.memory mem.old).bytes }
     ensures size { length (M.memory mem.new).bytes ≡ length (M.memory mem.old).bytes }
     ensures base { (M.memory mem.new).base ≡ (M.memory mem.old).base }
     ensures backed { M.is_backed mem.new }
     ensures keeps { (mem.new ≡ mem.old) ⊎ M.keeps mem.old mem.new }
 {
+    let reserved = is_reserved(state.reservation, place, width);
     state.reservation = None;
     if reserved {
         write_at(mem, place, width, value);

@@ -17,8 +17,8 @@ IsPageAccess None before result after = (result ≡ None) × (after ≡ before)
 IsPageAccess (Some end) before result after = (result ≡ Some end.value) × (after ≡ end.console)
 
 -- an instruction is made, and leaves the registers and the console so; or it is not, and changes nothing
-abbrev pub IsServed : Option DeviceCompletion → Virtual → ConsoleState → Bool → Virtual → ConsoleState
-    → Type 0
+abbrev pub IsServed : Option DeviceCompletion → Virtual → ConsoleState → Bool → Virtual
+    → ConsoleState → Type 0
 IsServed None virt before result state after = (result ≡ false) × (state ≡ virt) × (after ≡ before)
 IsServed (Some completion) virt before result state after =
     (result ≡ true) × (state ≡ completion.virt) × (after ≡ completion.console)

@@ -6,9 +6,9 @@ ghost use Rattle.device_page.specs.Ends.{IsPageAccess, device_accessed};
 
 use console_dev::Console;
 
-/// A store of a value, or else a load, of that many bytes at an offset of the page, by the clock of the
-/// console's machine: what it gives, which is 0 for a store. There is none, and nothing changes, exactly for
-/// one that the page does not serve.
+/// What a store of a value, or else a load, of that many bytes gives at an offset of the page, by the clock
+/// of the console's machine. A store gives 0. None, and nothing changes, exactly where the page does not
+/// serve it.
 pub fn access(
     offset: u64,
     width: u8,

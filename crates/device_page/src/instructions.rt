@@ -1,18 +1,18 @@
 // Instructions whose access is on the device page.
 
 ghost use Rattle.std.specs.Prelude.{◌≡◌};
-ghost use Rattle.op_defs.specs.declared.ops.Purpose.TheVariants.{Load, Store};
+ghost use Rattle.op_defs.specs.declared.ops.Purpose.TheVariants.{Store};
 ghost use Rattle.machine_defs.specs.DeviceSteps.{device_completed};
 ghost use Rattle.device_page.specs.Ends.{IsServed};
 
 use crate::accesses::access;
-use arch_defs::{Reg, Virtual, Width, extend};
+use arch_defs::{Virtual, Width, extend};
 use console_dev::Console;
 use op_defs::Purpose;
 
-/// An access of a width and a purpose to the page, at an offset, as the instruction of a state makes it: sets
-/// what it sets, and has pc go on. The answer is false, and nothing changes, exactly where the page does not
-/// serve it: so for HLVX, LR, SC and atomic memory operations.
+/// Makes an access of a width and a purpose to the page, at an offset, as the instruction of a state does. It
+/// sets what that sets, and has pc go on. The answer is false, and nothing changes, exactly where the page
+/// does not serve it: so for HLVX, LR, SC and atomic memory operations.
 pub fn serve(
     state: &mut Virtual,
     console: &mut Console,
@@ -25,34 +25,20 @@ pub fn serve(
         state.old console.old result state.new console.new }
 {
     match purpose {
-        Purpose::Load { signed, rd } => load(state, console, clock, offset, width, signed, rd),
+        Purpose::Load { signed, rd } => {
+            match access(offset, width.bytes(), None, console, clock) {
+                Some(value) => {
+                    state.set(rd, extend(width, signed, value));
+                    true
+                }
+                None => false,
+            }
+        }
         Purpose::Store { value } => store(state, console, clock, offset, width, value),
         Purpose::LoadCode { .. }
         | Purpose::Reserve { .. }
         | Purpose::StoreReserved { .. }
         | Purpose::Modify { .. } => false,
-    }
-}
-
-// A load.
-fn load(
-    state: &mut Virtual,
-    console: &mut Console,
-    clock: u64,
-    offset: u64,
-    width: Width,
-    signed: bool,
-    rd: Reg,
-) -> bool
-    ensures { IsServed (device_completed state.old console.old clock offset width (Load signed rd))
-        state.old console.old result state.new console.new }
-{
-    match access(offset, width.bytes(), None, console, clock) {
-        Some(value) => {
-            state.set(rd, extend(width, signed, value));
-            true
-        }
-        None => false,
     }
 }
 

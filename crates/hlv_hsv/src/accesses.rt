@@ -93,9 +93,7 @@ fn make<M: Mem>(
     ensures keeps { (mem.new ≡ mem.old) ⊎ M.keeps mem.old mem.new }
 {
     let mode = hlv_mode(&state.csrs);
-    let kind = kind_of(wanted.purpose);
-    let csrs = &state.csrs;
-    match place_or_page(mem, device, csrs, mode, wanted.address, wanted.width, kind) {
+    match place_or_page(mem, device, &state.csrs, mode, &wanted) {
         Ok(Place::InMemory(place)) => {
             complete(mem, state, wanted.width, wanted.purpose, place);
             Accessed::Done

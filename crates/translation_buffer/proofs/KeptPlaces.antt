@@ -22,6 +22,7 @@ use Rattle.arch_defs.specs.Roots.{guest_shape}
 use Rattle.arch_defs.specs.SecondStage.{guest_root_frame, memory_words, place_under, second_end, second_under, second_walk, walked}
 use Rattle.arch_defs.specs.Walk.{EntryReading, index, is_canonical, later, leaf_address, levels, met_in, next_of, path, path_from, place_of, walk}
 use Rattle.arch_defs.proofs.FrameSets.{load_kept}
+use Rattle.arch_defs.proofs.SamePages.{eighth}
 use Rattle.stage_walk.specs.Laws.{SameOn}
 use Rattle.stage_walk.specs.Reads.{Each, LiesIn}
 use Rattle.stage_walk.proofs.Chains.{walks_alike}
@@ -31,9 +32,6 @@ use Rattle.translation_buffer.specs.Places.{passed_under, passed_by, placed_at, 
 use Rattle.translation_buffer.proofs.OnePage.{same_some, second_near}
 
 -- readings that agree where something holds of a multiple of 8 agree on entries of which it holds
-eighth : (table part : ℕ) → (4096 * table + 8 * part) % 8 ≡ 0
-eighth table part = omega arith
-
 same_from : (holds : ℕ → Type 0) (reading other : EntryReading) → ((at : ℕ) → at % 8 ≡ 0 → holds at → other at ≡ reading at) → (shape : Shape) (va : ℕ) (access : Access) (level table : ℕ)
     → Each holds (path_from reading shape va access level table) → SameOn other (path_from reading shape va access level table)
 unfolding path_from

@@ -1,17 +1,14 @@
 -- The addresses of one page have their places in one frame.
-use Rattle.std.proofs.Common.{cond, ◌≡◌, ℕ, zero, suc, ◌+◌, ◌*◌, ◌/◌, ◌%◌, ◌^◌, ◌<◌, ◌∙◌, Bool, true, false, List, [], ◌∷◌, Some, None, refl, ap, sym, arith}
+use Rattle.std.proofs.Common.{cond, ◌≡◌, ℕ, ◌+◌, ◌*◌, ◌/◌, ◌%◌, ◌^◌, ◌<◌, ◌∙◌, Bool, true, false, List, Some, None, refl, ap, arith}
 use Rattle.std.specs.Prelude.{nat_le, nat_lt, ◌&&◌, not, length}
 use Rattle.std.proofs.lemmas.Bool.{le-leb, lt-ltb, ltb-true}
-use Rattle.std.proofs.lemmas.Nat.{mod-pow-add, pow-add}
-use Rattle.std.proofs.Math.Nat.{div-div-eq-div-mul}
+use Rattle.std.proofs.lemmas.Nat.{mod-pow-add}
 use Rattle.arch_defs.specs.declared.modes.Access.{Access}
 use Rattle.arch_defs.specs.declared.roots.GuestRoot.{GuestRoot}
 use Rattle.arch_defs.specs.declared.roots.GuestRoot.TheVariants as guest
 use Rattle.arch_defs.specs.declared.second_walks.SecondWalkEnd.TheVariants.{GuestPageFault, AccessFault}
 use Rattle.arch_defs.specs.declared.second_walks.SecondWalkEnd.TheVariants as walk_end
 use Rattle.arch_defs.specs.declared.walks.LeafPte.{LeafPte}
-use Rattle.arch_defs.specs.declared.walks.Next.{Next}
-use Rattle.arch_defs.specs.declared.walks.Next.TheVariants.{Ends, Below}
 use Rattle.arch_defs.specs.declared.walks.Shape.{Shape}
 use Rattle.arch_defs.specs.declared.walks.WalkEnd.{WalkEnd}
 use Rattle.arch_defs.specs.declared.walks.WalkEnd.TheVariants.{Leaf, PageFault, FetchEnd}
@@ -21,53 +18,16 @@ use Rattle.arch_defs.specs.Permits.{permits_second}
 use Rattle.arch_defs.specs.Roots.{guest_shape}
 use Rattle.arch_defs.specs.SecondStage.{guest_root_frame, has_frame_of, memory_words, place_under, second_end, second_under, second_walk, walked}
 use Rattle.arch_defs.specs.TableEntries.{leaf_with}
-use Rattle.arch_defs.specs.Walk.{EntryReading, end_of, index, index_bits, is_canonical, later, leaf_address, levels, met_in, next_of, path, path_from, walk}
-use Rattle.arch_defs.proofs.Shapes.{canonical_same}
+use Rattle.arch_defs.specs.Walk.{leaf_address, walk}
+use Rattle.arch_defs.proofs.SamePages.{frame_same, walks_same}
 
--- their walks are one
-index_same : (shape : Shape) (level a b : ℕ) → a / 4096 ≡ b / 4096 → index shape level a ≡ index shape level b
-index_same shape level a b same = ap (λ n. n % 2 ^ index_bits shape level) (split a ∙ ap (λ n. n / 2 ^ (9 * level)) same ∙ sym (split b))
-  where
-    split : (n : ℕ) → n / 2 ^ (12 + 9 * level) ≡ n / 4096 / 2 ^ (9 * level)
-    split n = rw (pow-add 2 12 (9 * level)) (sym (div-div-eq-div-mul n 4096 (2 ^ (9 * level))))
-
-paths_same : (reading : EntryReading) (shape : Shape) (kind : Access) (a b : ℕ) → a / 4096 ≡ b / 4096 → (level table : ℕ)
-    → path_from reading shape a kind level table ≡ path_from reading shape b kind level table
-unfolding path_from
-paths_same reading shape kind a b same zero table = refl
-paths_same reading shape kind a b same (suc level) table = rw (index_same shape level a b same)
-    (ap (λ ms. met_in reading shape b level table ∷ ms) (by (next_of kind (met_in reading shape b level table)) (λ t. paths_same reading shape kind a b same level t)))
-  where
-    by : (next : Next) → ((t : ℕ) → path_from reading shape a kind level t ≡ path_from reading shape b kind level t)
-        → later (path_from reading shape a kind level) next ≡ later (path_from reading shape b kind level) next
-    by (Ends end) deeper = refl
-    by (Below t) deeper = deeper t
-
-walks_same : (reading : EntryReading) (shape : Shape) (root : ℕ) (kind : Access) (a b : ℕ) → a / 4096 ≡ b / 4096 → walk reading root shape a kind ≡ walk reading root shape b kind
-unfolding walk path
-walks_same reading shape root kind a b same = rw (canonical_same shape a b same) (by (is_canonical shape b))
-  where
-    by : (right : Bool) → end_of kind (cond right (path_from reading shape a kind (levels shape) root) []) ≡ end_of kind (cond right (path_from reading shape b kind (levels shape) root) [])
-    by true = ap (end_of kind) (paths_same reading shape kind a b same (levels shape) root)
-    by false = refl
-
--- under a leaf their frame is one
-quotient : (f p r n : ℕ) → n ≡ p * 4096 + r % 4096 → (4096 * f + n) / 4096 ≡ f + p
-quotient f p r n is = omega arith
-
+-- each keeps its offset under a leaf
 remainder : (f p r n : ℕ) → n ≡ p * 4096 + r % 4096 → (4096 * f + n) % 4096 ≡ r % 4096
 remainder f p r n is = omega arith
 
 turned : (level : ℕ) → 12 + 9 * level ≡ 9 * level + 12
 turned level = omega arith
 
-frame_under : (leaf : LeafPte) (n : ℕ) → leaf_address leaf n / 4096 ≡ leaf.frame + n / 4096 % 2 ^ (9 * leaf.level)
-frame_under leaf n = rw (turned leaf.level) (quotient leaf.frame (n / 4096 % 2 ^ (9 * leaf.level)) n (n % 2 ^ (9 * leaf.level + 12)) (mod-pow-add n (9 * leaf.level) 12))
-
-frame_same : (leaf : LeafPte) (a b : ℕ) → a / 4096 ≡ b / 4096 → leaf_address leaf a / 4096 ≡ leaf_address leaf b / 4096
-frame_same leaf a b same = frame_under leaf a ∙ ap (λ n. leaf.frame + n % 2 ^ (9 * leaf.level)) same ∙ sym (frame_under leaf b)
-
--- and each keeps its offset
 offset_under : (leaf : LeafPte) (n : ℕ) → leaf_address leaf n % 4096 ≡ n % 4096
 offset_under leaf n = rw (turned leaf.level) (remainder leaf.frame (n / 4096 % 2 ^ (9 * leaf.level)) n (n % 2 ^ (9 * leaf.level + 12)) (mod-pow-add n (9 * leaf.level) 12))
 

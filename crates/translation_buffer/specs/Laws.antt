@@ -59,8 +59,8 @@ HitIsPlace = (first : List FirstEntry) (owner : Tag) (virt : Virtual) (memory : 
 
 -- and it finds nothing, so nothing is cached for it
 abbrev pub HitsFindNothing : Type 0
-HitsFindNothing = (first : List FirstEntry) (owner : Tag) (virt : Virtual) (memory : List ℕ) (va place : ℕ)
-    (width : Width) (access : Access)
+HitsFindNothing = (first : List FirstEntry) (owner : Tag) (virt : Virtual) (memory : List ℕ)
+    (va place : ℕ) (width : Width) (access : Access)
     → translated_place (translator first owner (context_of virt.csrs virt.mode))
     (privilege_of virt.csrs virt.mode) memory va access ≡ Some place
     → found_for owner (mmu_by first owner virt memory) virt va width access ≡ []

@@ -42,7 +42,8 @@ translator first owner context = record { first = first; owner = owner; context 
 
 -- the guest physical address of an access for which no table of the first stage is walked: by the cached
 -- translation of its page, if that permits the access; Bare passes each address on
-abbrev pub passed_by : List FirstEntry → Tag → Privilege → SupervisorRoot → ℕ → Access → Option ℕ
+abbrev pub passed_by : List FirstEntry → Tag → Privilege → SupervisorRoot → ℕ → Access
+    → Option ℕ
 passed_by first owner who root.Bare va access = Some va
 passed_by first owner who (root.Table mode asid ppn) va access =
     known_under first owner who (root.Table mode asid ppn) va access
@@ -69,7 +70,8 @@ place_on_hart s memory va access =
 
 -- all entries that the second stage reads for it lie in these frames
 abbrev pub Reads : Frames → Translator → Privilege → List ℕ → ℕ → Access → Type 0
-Reads frames under who memory va access = (address : ℕ) → passed_under under who va access ≡ Some address
+Reads frames under who memory va access = (address : ℕ)
+    → passed_under under who va access ≡ Some address
     → SecondReads frames (machine_memory memory) address access under.context.second
 
 -- whether a cached translation is of a page, or not named

@@ -52,7 +52,8 @@ abbrev pub IsAtHome : ℕ → ℕ → Slot → Type 0
 IsAtHome size at slot = slot.tag ≢ 0 → slot.tag % 2 ^ 52 % size ≡ at
 
 abbrev pub AreAtHome : List Slot → Type 0
-AreAtHome slots = (at : ℕ) (d : Slot) → at < length slots → IsAtHome (length slots) at (get_or slots at d)
+AreAtHome slots = (at : ℕ) (d : Slot) → at < length slots
+    → IsAtHome (length slots) at (get_or slots at d)
 
 abbrev pub AllAtHome : Slots → Type 0
 AllAtHome slots = (kind : Access) → AreAtHome (slots_of slots kind)

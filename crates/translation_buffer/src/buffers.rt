@@ -32,8 +32,8 @@ use two_stage_walk::{leaf_address, privilege_of, second_noted};
 // The last number of a run: a tag has the number and one in its upper 9 bits.
 const LAST_RUN: u64 = 510;
 
-/// The translations that the hart keeps, for the roots and the privilege that it accesses memory by: the
-/// slots, and the frames of all that was read for them, now or once. `who` is what a tag has above the page's
+/// The translations that the hart keeps for the roots and the privilege by which it accesses memory: the
+/// slots, and the frames of all that is or was read for them. `who` is what a tag has above the page's
 /// number. A restart empties no slot: it begins a run with a number that no slot has. The page of the last
 /// fetch was a slot's for fetches, and is forgotten where any of them may be dropped.
 #[derive(Clone, Copy, PartialEq, Eq)]
@@ -112,9 +112,8 @@ fn known_in(
     known_by(who, va, access, first.entry_of(owner, table, va / 4096))
 }
 
-/// The guest physical address of an access for which no table of the first stage is walked: by the cached
-/// translation of its page, if that permits the access, or in Bare. For whom it is made counts under a table
-/// alone.
+/// The guest physical address of an access for which no table of the first stage is walked: in Bare, or by
+/// the cached translation of its page, if that permits it. For whom it is made counts under a table alone.
 #[inline]
 #[tactic(auto, unfolding(arch_defs::specs::FirstEntries::known_under))]
 pub fn passed_by(state: &HartState, root: &SupervisorRoot, va: u64, access: Access) -> Option<u64>
@@ -134,6 +133,7 @@ pub fn passed_by(state: &HartState, root: &SupervisorRoot, va: u64, access: Acce
 
 // The place of an access for which no table of the first stage is walked, where the second stage gives one.
 // The frames of all that is read are added to a set.
+#[inline(always)]
 fn place_noted(
     memory: &PhysMem,
     context: &Context,
@@ -453,8 +453,9 @@ impl Buffer {
         }
     }
 
-    // The place of an access by the second stage, which is kept.
-    #[inline(never)]
+    // The place of an access by the second stage, which is kept. It is compiled with the walk into each
+    // caller, which knows the kind of access.
+    #[inline(always)]
     fn walk(&mut self, memory: &PhysMem, state: &HartState, va: u64, access: Access) -> Option<u64>
         requires serves { ServesHart self.old state.now memory.now }
         ensures place { result ≡ place_on_hart state.now memory.now va access }
@@ -481,7 +482,7 @@ impl Buffer {
 
     /// The place of an access for which no table of the first stage is walked, where the second stage gives
     /// one as the registers and memory are, and else none.
-    #[inline]
+    #[inline(always)]
     pub fn place(
         &mut self,
         memory: &PhysMem,

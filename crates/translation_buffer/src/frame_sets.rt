@@ -54,7 +54,6 @@ fn bit_at(place: u64) -> u64
 
 impl FrameSet {
     /// The set that holds no frame.
-    #[tactic(auto, using(crate::proofs::Holding::none_held))]
     pub fn new() -> FrameSet
         ensures { (frame : ℕ) → has_frame result frame ≡ false }
     {
@@ -139,7 +138,8 @@ impl FrameSet {
     #[inline]
     #[tactic(auto, using(crate::proofs::Removing::removing))]
     pub fn remove(&mut self, frame: u64)
-        ensures removed { (other : ℕ) → other % 4096 ≡ frame % 4096 → has_frame self.new other ≡ false }
+        ensures removed { (other : ℕ) → other % 4096 ≡ frame % 4096
+            → has_frame self.new other ≡ false }
         ensures others { (other : ℕ) → other % 4096 ≢ frame % 4096
             → has_frame self.new other ≡ has_frame self.old other }
     {

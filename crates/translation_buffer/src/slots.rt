@@ -11,9 +11,9 @@ ghost use Rattle.translation_buffer.specs.Tags.{AllAtHome, AllUpTo, AreAtHome, A
 
 use arch_defs::Access;
 
-/// A kept translation: the tag of a page, what is added to an address of it, modulo 2^64, to get its place,
-/// and the bits of the frames that were read for it. A frame's bit is that of its number modulo 64. Where
-/// none is kept, the tag is 0, which no page has.
+/// A kept translation: the tag of a page, what is added to an address of it to get its place, and the bits of
+/// the frames that were read for it. The sum is modulo 2^64. A frame's bit is that of its number modulo 64.
+/// Where none is kept, the tag is 0, which no page has.
 #[derive(Clone, Copy, PartialEq, Eq)]
 pub struct Slot {
     pub tag: u64,

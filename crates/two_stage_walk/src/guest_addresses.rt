@@ -82,7 +82,7 @@ pub fn second_end<M: Mem>(
 }
 
 /// The walk of the second-stage table of a shape at hgatp's PPN, for an access of a kind at a guest physical
-/// address, which notes the frames of the entries that it reads. `mxr` is sstatus.MXR.
+/// address. It notes the frames of the entries that it reads. `mxr` is sstatus.MXR.
 #[inline(always)]
 #[tactic(auto, unfolding(arch_defs::specs::SecondStage::second_walk))]
 pub fn second_walk_noted<M: Mem, N: Notes>(

@@ -43,8 +43,9 @@ fn place_under<M: Mem>(mem: &M, address: u64, end: SecondWalkEnd) -> Option<u64>
 }
 
 // The place that the walk of a table of a mode gives. With the shape of the table known the places of its
-// entries are computed in fewer instructions.
-#[inline(never)]
+// entries are computed in fewer instructions, and with the kind of access, which a caller knows, its leaf is
+// tested in fewer.
+#[inline(always)]
 fn table_place<M: Mem, N: Notes>(
     mem: &M,
     mxr: bool,
@@ -77,7 +78,7 @@ fn table_place<M: Mem, N: Notes>(
 
 /// The place that the second stage by a table, or Bare, gives an access of a kind at a guest physical
 /// address. The frames of the entries that are read are noted.
-#[inline]
+#[inline(always)]
 #[tactic(auto, using(crate::proofs::SecondAnswers::place_bare))]
 pub fn second_noted<M: Mem, N: Notes>(
     mem: &M,

@@ -88,9 +88,9 @@ fn placed_by<M: Mem>(
     }
 }
 
-/// Where an access to a virtual address is made as a mode, by both stages as the registers and memory are, of
-/// a machine that has the device page or not; or its trap: an access fault, a page fault or a guest-page
-/// fault, with all that its entry writes.
+/// Where an access to a virtual address is made as a mode, by both stages as the registers and memory are, or
+/// its trap. The machine has the device page or not. The trap is an access fault, a page fault or a
+/// guest-page fault, with all that its entry writes.
 pub fn locate<M: Mem>(
     mem: &M,
     csrs: &Csrs,

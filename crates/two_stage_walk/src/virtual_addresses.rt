@@ -131,23 +131,21 @@ pub fn found_by(privilege: Privilege, access: Access, va: u64, end: WalkEnd) -> 
 
 // What the walk of the table of a shape at this PPN makes of a virtual address.
 fn found_in_table<M: Mem>(
-    mem: &M,
-    csrs: &Csrs,
-    mode: Mode,
+    entries: &Entries<'_, M>,
     shape: Shape,
     ppn: u64,
     va: u64,
     access: Access,
 ) -> Found
-    requires backed { M.is_backed mem.now }
-    ensures value { result ≡ found_by (privilege_of csrs.now mode) access va
-        (walk (entry_words_through (second_by_walk csrs.now mode (M.memory mem.now))
-        (reading_of (M.memory mem.now))) (ppn % 2 ^ 44) shape va access) }
+    requires backed { M.is_backed entries.now.mem.now }
+    ensures value { result ≡ found_by (privilege_of entries.now.csrs.now entries.now.mode) access va
+        (walk (entry_words_through (second_by_walk entries.now.csrs.now entries.now.mode
+        (M.memory entries.now.mem.now)) (reading_of (M.memory entries.now.mem.now)))
+        (ppn % 2 ^ 44) shape va access) }
     ensures offset { KeepsOffset va result }
 {
-    let entries = Entries { mem, csrs, mode };
-    let end = walk(&entries, ppn % 0x1000_0000_0000, shape, va, access);
-    found_by(privilege_of(csrs, mode), access, va, end)
+    let end = walk(entries, ppn % 0x1000_0000_0000, shape, va, access);
+    found_by(privilege_of(entries.csrs, entries.mode), access, va, end)
 }
 
 /// What the first stage makes of a virtual address for an access as a mode. Its entries are read where the
@@ -165,7 +163,10 @@ pub fn first_stage<M: Mem>(mem: &M, csrs: &Csrs, mode: Mode, va: u64, access: Ac
             mode: table,
             ppn,
             ..
-        } => found_in_table(mem, csrs, mode, table.shape(), ppn, va, access),
+        } => {
+            let entries = Entries { mem, csrs, mode };
+            found_in_table(&entries, table.shape(), ppn, va, access)
+        }
     }
 }
 

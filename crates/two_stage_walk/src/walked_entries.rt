@@ -11,10 +11,9 @@ use crate::virtual_addresses::leaf_address;
 use arch_defs::{Access, Csrs, Entry, GuestRoot, LeafPte, SecondWalkEnd};
 use phys_mem::Mem;
 
-/// The cached translation that the walk of hgatp's table in RAM gives for an access of a kind at a guest
-/// physical address, for this one page; none where no leaf permits the access, or RAM does not have the
-/// leaf's frame, which is not that of the device page either, of a guest that has it (Privileged Architecture
-/// 20211203, 8.2.10 and 8.5).
+/// The cached translation of one page that the walk of hgatp's table in RAM gives for an access of a kind at
+/// a guest physical address (Privileged Architecture 20211203, 8.2.10 and 8.5). None where no leaf permits
+/// the access, or RAM does not have the leaf's frame, unless that is the device page's and the guest has it.
 #[tactic(auto, unfolding(arch_defs::specs::WalkedEntries::entry_by_walk))]
 pub fn entry_by_walk<M: Mem>(
     mem: &M,

@@ -72,6 +72,7 @@ pub fn to_nested(virt: &Virtual, part: &Part, root: u64, hart: &mut HartState)
 }
 
 // Sets what the hart has for the guest beside its control and status registers.
+#[inline(always)]
 fn set_others(virt: &Virtual, part: &Part, hart: &mut HartState)
     requires held { ReservesWithin (in_ram part.now.blocks) virt.now.reservation }
     ensures state { hart.new.virt ≡ renamed (memory_place part.now.blocks)
@@ -107,6 +108,7 @@ fn copy_translations(from: &FirstBuffer, to: &mut FirstBuffer)
 /// to the guest's own address: one at a place that the part does not have becomes none. That cannot occur,
 /// for the hart reserves only what the guest's host table gives. What the hart does not have for the guest
 /// stays.
+#[inline(always)]
 pub fn save(hart: &HartState, part: &Part, virt: &mut Virtual)
     ensures { virt.new ≡ saved_in part.now hart.now.virt virt.old }
 {
