@@ -69,11 +69,11 @@ runs_both m n k s memory trace between held sum after changed raised is first se
 pub runs_by : (end : Ended) (n : ℕ) (s : HartState) (memory : List ℕ) (counts : Counts) (trap : Trap) (after : HartState) (changed : List ℕ) (raised : Counts)
     → n ≡ one_of end → due s.virt.csrs s.virt.mode ≡ None
     → told_of counts.trace (attempt_of (with_found_on s memory) memory (core (mmu_on s memory) s.virt)) ≡ told_by end trap after changed raised.trace
-    → IfRaised end ((after ≡ s) × (changed ≡ memory) × (raised ≡ counts))
+    → IfRaised end ((after ≡ s) × (changed ≡ memory)) → IfRaised end (raised ≡ counts)
     → RunsOn n s memory counts.trace after changed raised.trace
-runs_by Plain n s memory counts trap after changed raised is none told stays = runs_one n s memory counts.trace after changed raised.trace is none told
-runs_by System n s memory counts trap after changed raised is none told stays = runs_one n s memory counts.trace after changed raised.trace is none told
-runs_by Raised n s memory counts trap after changed raised is none told (a, b, e) = λ watch.
+runs_by Plain n s memory counts trap after changed raised is none told stays same = runs_one n s memory counts.trace after changed raised.trace is none told
+runs_by System n s memory counts trap after changed raised is none told stays same = runs_one n s memory counts.trace after changed raised.trace is none told
+runs_by Raised n s memory counts trap after changed raised is none told (a, b) e = λ watch.
     rw (a, b, e) (steps_none watch n (progress s memory counts.trace false) (omega (arith, is)))
 
 -- a common one

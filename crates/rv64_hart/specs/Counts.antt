@@ -14,3 +14,8 @@ IsRaisedBy sum old new = new % 2 ^ 64 ≡ (old + sum) % 2 ^ 64
 -- only the trace may be another
 abbrev pub OnlyTrace : Counts → Counts → Type 0
 OnlyTrace old new = (new.entries ≡ old.entries) × (new.taken ≡ old.taken)
+
+-- this many steps have been counted, in the entry that was
+pub record CountsSteps (taken : ℕ) (old new : Counts) : Type 0 where
+  pub entries : new.entries ≡ old.entries
+  pub steps : new.taken ≡ old.taken + taken

@@ -1,5 +1,5 @@
 -- What the functions inside a run of the hart answer, in a byte each; a trap is told apart.
-use Rattle.std.specs.Prelude.{ℕ, ◌≡◌, ◌+◌, ◌%◌, ◌^◌, ◌<◌, ◌≤◌, List, Option, Some, None, Bool, true, false, ⊤}
+use Rattle.std.specs.Prelude.{ℕ, ◌≡◌, ◌+◌, ◌%◌, ◌^◌, ◌<◌, ◌≤◌, List, Option, Some, None, IfSome, Bool, true, false, ⊤}
 use Rattle.arch_defs.specs.declared.first.FirstEntry.{FirstEntry}
 use Rattle.arch_defs.specs.declared.hart_states.HartState.{HartState}
 use Rattle.arch_defs.specs.declared.modes.Mode.{Mode}
@@ -17,13 +17,19 @@ use Rattle.machine_defs.specs.Core.{Located, At, at_place, core, executed, instr
 use Rattle.machine_defs.specs.FirstLeaves.{found_by_effect, found_by_op}
 use Rattle.machine_defs.specs.Outcomes.{Outcome}
 use Rattle.machine_defs.specs.Runs.{pc_and_word}
+use Rattle.translation_buffer.specs.declared.buffers.Buffer.{Buffer}
 use Rattle.translation_buffer.specs.Places.{context_of}
+use Rattle.translation_buffer.specs.Serving.{ServesHart}
+use Rattle.rv64_hart.specs.declared.endings.CommonStretch.{CommonStretch}
 use Rattle.rv64_hart.specs.declared.endings.Ended.{Ended}
 use Rattle.rv64_hart.specs.declared.endings.Ended.TheVariants.{Plain, System, Raised}
+use Rattle.rv64_hart.specs.declared.endings.Round.{Round}
 use Rattle.rv64_hart.specs.declared.endings.StepEnd.{StepEnd}
 use Rattle.rv64_hart.specs.declared.endings.StepEnd.TheVariants.{Continues, Ends, Left}
+use Rattle.rv64_hart.specs.declared.endings.Stretch.{Stretch}
+use Rattle.rv64_hart.specs.Counts.{Counts, OnlyTrace}
 use Rattle.rv64_hart.specs.MachineMemory.{mmu_on}
-use Rattle.rv64_hart.specs.Steps.{Attempt, Makes, Raises, attempt_of, caching, Progress, enters_vs, hart_steps, progress, caching_found, with_found_on}
+use Rattle.rv64_hart.specs.Steps.{Attempt, Exits, Makes, Raises, attempt_of, caching, Progress, enters_vs, hart_step, hart_steps, next_attempt, progress, caching_found, with_found_on}
 
 -- where an access is made, by the answer; where it is not, the trap that it is to the hart, whatever has been
 -- found by then, and whatever it is for and is to follow there
@@ -175,3 +181,45 @@ KeepsContext old new = (new.csrs ≡ old.csrs) × (new.mode ≡ old.mode)
 abbrev pub NoneDueIfQuiet : Bool → Virtual → Type 0
 NoneDueIfQuiet true state = due state.csrs state.mode ≡ None
 NoneDueIfQuiet false state = ⊤
+
+-- what an instruction leaves, by how it ended: all as it was, where it raised a trap; a buffer that serves
+-- the hart; and the registers by which memory is accessed, where it is a plain one
+pub record LeftBy (how : Ended) (buffer : Buffer) (old : HartState) (memory : List ℕ)
+    (new : HartState) (changed : List ℕ) : Type 0 where
+  pub stays : IfRaised how ((new ≡ old) × (changed ≡ memory))
+  pub serves : ServesHart buffer new changed
+  pub plain : IfPlain how (KeepsContext old.virt new.virt)
+
+-- what it leaves of the account: all but the trace; and where it raised a trap, the trace too
+pub record IsTallied (how : Ended) (old new : Counts) : Type 0 where
+  pub only : OnlyTrace old new
+  pub stays : IfRaised how (new ≡ old)
+
+-- what a stretch of instructions leaves: the state, memory and trace to which its steps lead; the next step
+-- raises the trap, where one ended the stretch
+pub record LeftByStretch (stretch : Stretch) (trap : Trap) (buffer : Buffer) (tally counted : Counts)
+    (old : HartState) (memory : List ℕ) (new : HartState) (changed : List ℕ) : Type 0 where
+  pub steps : RunsOn stretch.made old memory tally.trace new changed counted.trace
+  pub raises : IfRaised stretch.end
+      (next_attempt new changed (due new.virt.csrs new.virt.mode) ≡ Raises trap)
+  pub only : OnlyTrace tally counted
+  pub serves : ServesHart buffer new changed
+
+-- one of common instructions, and where it ended before a word
+pub record LeftByCommon (stretch : CommonStretch) (buffer : Buffer) (tally counted : Counts)
+    (old : HartState) (memory : List ℕ) (new : HartState) (changed : List ℕ) : Type 0 where
+  pub steps : RunsOn stretch.made old memory tally.trace new changed counted.trace
+  pub next : IfSome stretch.word (λ word. IsNext word new changed)
+  pub only : OnlyTrace tally counted
+  pub serves : ServesHart buffer new changed
+  pub context : KeepsContext old.virt new.virt
+
+-- and a stretch with the trap that ends it: where that is not taken into VS, the next step is an exit
+pub record LeftByRound (watch : Bool) (round : Round) (trap : Trap) (buffer : Buffer)
+    (tally counted : Counts) (old : HartState) (memory : List ℕ)
+    (new : HartState) (changed : List ℕ) : Type 0 where
+  pub steps : hart_steps watch round.made (progress old memory tally.trace false)
+      ≡ Some (progress new changed counted.trace (ends_run round.end))
+  pub exits : IfLeft round.end (hart_step new changed ≡ Exits trap)
+  pub only : OnlyTrace tally counted
+  pub serves : ServesHart buffer new changed

@@ -10,7 +10,7 @@ ghost use Rattle.machine_defs.specs.Core.{At, accessed_data, kind_of, storing, w
 ghost use Rattle.machine_defs.specs.FirstLeaves.{entries_of};
 ghost use Rattle.data_access.specs.Places.{IsPlaceFor};
 ghost use Rattle.translation_buffer.specs.Serving.{ServesHart};
-ghost use Rattle.rv64_hart.specs.Endings.{IfMade, IfPlain, IfRaised, IsAnswered, KeepsContext, Unless, attempt_by};
+ghost use Rattle.rv64_hart.specs.Endings.{IfMade, IsAnswered, KeepsContext, LeftBy, Unless, attempt_by};
 ghost use Rattle.rv64_hart.specs.MachineMemory.{access_over, found_over, mmu_on, reading_of_memory};
 ghost use Rattle.rv64_hart.specs.Steps.{Makes, attempt_of, caching_found};
 
@@ -217,9 +217,7 @@ pub fn access_data(
         (found_over memory.old state.old wanted.address wanted.width (kind_of wanted.purpose))) memory.old
         (accessed_data (mmu_on state.old memory.old) state.old.virt event wanted)
         ≡ attempt_by result trap.new event state.new memory.new }
-    ensures stays { IfRaised result ((state.new ≡ state.old) × (memory.new ≡ memory.old)) }
-    ensures serves { ServesHart buffer.new state.new memory.new }
-    ensures plain { IfPlain result (KeepsContext state.old.virt state.new.virt) }
+    ensures left { LeftBy result buffer.new state.old memory.old state.new memory.new }
 {
     let access = kind_of(wanted.purpose);
     match access_place(
@@ -257,9 +255,7 @@ pub fn access_data_anew(
         (found_over memory.old state.old wanted.address wanted.width (kind_of wanted.purpose))) memory.old
         (accessed_data (mmu_on state.old memory.old) state.old.virt event wanted)
         ≡ attempt_by result trap.new event state.new memory.new }
-    ensures stays { IfRaised result ((state.new ≡ state.old) × (memory.new ≡ memory.old)) }
-    ensures serves { ServesHart buffer.new state.new memory.new }
-    ensures plain { IfPlain result (KeepsContext state.old.virt state.new.virt) }
+    ensures left { LeftBy result buffer.new state.old memory.old state.new memory.new }
 {
     let access = kind_of(wanted.purpose);
     let (address, width) = (wanted.address, wanted.width);
@@ -419,9 +415,7 @@ pub fn load_anew(
         (accessed_data (mmu_on state.old memory.now) state.old.virt event
         (record { address = at; width = width; purpose = Load signed rd }))
         ≡ attempt_by result trap.new event state.new memory.now }
-    ensures stays { IfRaised result (state.new ≡ state.old) }
-    ensures serves { ServesHart buffer.new state.new memory.now }
-    ensures plain { IfPlain result (KeepsContext state.old.virt state.new.virt) }
+    ensures left { LeftBy result buffer.new state.old memory.now state.new memory.now }
 {
     match access_place(state, memory, buffer, at, width, Access::Load, trap) {
         Some(place) => {
@@ -449,9 +443,7 @@ pub fn store_anew(
         (accessed_data (mmu_on state.old memory.old) state.old.virt event
         (record { address = address; width = width; purpose = Store value }))
         ≡ attempt_by result trap.new event state.new memory.new }
-    ensures stays { IfRaised result ((state.new ≡ state.old) × (memory.new ≡ memory.old)) }
-    ensures serves { ServesHart buffer.new state.new memory.new }
-    ensures plain { IfPlain result (KeepsContext state.old.virt state.new.virt) }
+    ensures left { LeftBy result buffer.new state.old memory.old state.new memory.new }
 {
     match access_place(state, memory, buffer, address, width, Access::Store, trap) {
         Some(place) => {

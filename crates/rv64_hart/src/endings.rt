@@ -50,8 +50,7 @@ pub struct Round {
 }
 
 /// Raises an exception of an instruction.
-#[cold]
-#[inline(never)]
+#[inline(always)]
 pub(crate) fn raise(mode: Mode, cause: u64, tval: u64, trap: &mut Trap) -> Ended
     ensures trap { trap.new ≡ exception mode cause tval }
     ensures raised { result ≡ Ended.Raised }

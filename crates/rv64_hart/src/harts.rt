@@ -4,6 +4,7 @@ ghost use Rattle.std.specs.Prelude.{◌≡◌, ◌+◌, ◌^◌, ◌<◌, ◌≤
 ghost use Rattle.std.specs.Borrow.{sem};
 ghost use Rattle.arch_defs.specs.Registers.{virtual_at};
 ghost use Rattle.translation_buffer.specs.Serving.{ServesHart};
+ghost use Rattle.rv64_hart.specs.Counts.{CountsSteps};
 ghost use Rattle.rv64_hart.specs.Loans.{LendsState};
 ghost use Rattle.rv64_hart.specs.Steps.{hart_steps, progress, is_vs_trap, IsWhy};
 
@@ -77,6 +78,7 @@ impl Hart {
 
     /// Makes steps over machine memory until `limit` are made, the next would trap to HS, or, while
     /// watched, one entered VS by a trap. Raises the tally by one entry and by the steps made.
+    #[inline(always)]
     pub fn run(&mut self, memory: &mut PhysMem, limit: u64, watch: bool, tally: &mut Tally) -> Stop
         requires entries { tally.old.entries < 2 ^ 62 }
         requires taken { tally.old.taken + limit ≤ 2 ^ 62 }
@@ -123,8 +125,7 @@ fn steps(
         ≡ Some (progress state.new memory.new tally.new.trace (is_vs_trap result.why)) }
     ensures why { IsWhy limit result.taken state.new memory.new result.why }
     ensures within { result.taken ≤ limit }
-    ensures entries { tally.new.entries ≡ tally.old.entries }
-    ensures taken { tally.new.taken ≡ tally.old.taken + result.taken }
+    ensures counts { CountsSteps result.taken tally.old tally.new }
 {
     let mut trap = Trap::of_interrupt(0);
     let mut quiet = false;

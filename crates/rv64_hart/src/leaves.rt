@@ -57,7 +57,7 @@ impl Leaves {
     }
 
     /// Caches them.
-    #[inline]
+    #[inline(always)]
     #[tactic(auto, using(crate::proofs::FirstFound::filled_both))]
     pub fn fill(&self, first: &mut FirstBuffer)
         requires { LeavesFit self.now }

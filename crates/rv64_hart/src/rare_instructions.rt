@@ -18,7 +18,7 @@ ghost use Rattle.arch_defs.specs.Registers.{next};
 ghost use Rattle.machine_defs.specs.Privileges.{privileged};
 ghost use Rattle.translation_buffer.specs.Serving.{Serves, ServesHart};
 ghost use Rattle.rv64_hart.specs.CsrWords.{csr_asked, csr_source};
-ghost use Rattle.rv64_hart.specs.Endings.{IfPlain, IfRaised, KeepsContext, HasSameTranslation, Unless, attempt_at, attempt_by, attempt_with};
+ghost use Rattle.rv64_hart.specs.Endings.{HasSameTranslation, LeftBy, Unless, attempt_at, attempt_by, attempt_with};
 ghost use Rattle.rv64_hart.specs.MachineMemory.{found_over, mmu_on};
 ghost use Rattle.rv64_hart.specs.Steps.{Raises, attempt_of, caching, caching_found};
 
@@ -53,9 +53,7 @@ pub(crate) fn rare(
     ensures ends { attempt_at
         (entries_of (option_map (λ e. e.now) found.entry)) state.old memory.old word
         ≡ attempt_by result trap.new (event_of state.old.virt.regs.pc word) state.new memory.new }
-    ensures stays { IfRaised result ((state.new ≡ state.old) × (memory.new ≡ memory.old)) }
-    ensures serves { ServesHart buffer.new state.new memory.new }
-    ensures plain { IfPlain result (KeepsContext state.old.virt state.new.virt) }
+    ensures left { LeftBy result buffer.new state.old memory.old state.new memory.new }
 {
     if word == 0x0000_0073 {
         call(state.virt.mode, trap)
@@ -82,9 +80,7 @@ fn system(
     ensures ends { attempt_at
         (entries_of (option_map (λ e. e.now) found.entry)) state.old memory.old word
         ≡ attempt_by result trap.new (event_of state.old.virt.regs.pc word) state.new memory.new }
-    ensures stays { IfRaised result ((state.new ≡ state.old) × (memory.new ≡ memory.old)) }
-    ensures serves { ServesHart buffer.new state.new memory.new }
-    ensures plain { IfPlain result (KeepsContext state.old.virt state.new.virt) }
+    ensures left { LeftBy result buffer.new state.old memory.old state.new memory.new }
 {
     if word / 4096 % 4 != 0 {
         register(state, memory, buffer, word, found, trap)
@@ -109,9 +105,7 @@ fn without_register(
     ensures ends { attempt_at
         (entries_of (option_map (λ e. e.now) found.entry)) state.old memory.old word
         ≡ attempt_by result trap.new (event_of state.old.virt.regs.pc word) state.new memory.new }
-    ensures stays { IfRaised result ((state.new ≡ state.old) × (memory.new ≡ memory.old)) }
-    ensures serves { ServesHart buffer.new state.new memory.new }
-    ensures plain { IfPlain result (KeepsContext state.old.virt state.new.virt) }
+    ensures left { LeftBy result buffer.new state.old memory.old state.new memory.new }
 {
     match decode_system(word) {
         Some(op) => decided(state, memory, buffer, word, &op, found, trap),
@@ -134,9 +128,7 @@ fn other(
     ensures ends { attempt_at
         (entries_of (option_map (λ e. e.now) found.entry)) state.old memory.old word
         ≡ attempt_by result trap.new (event_of state.old.virt.regs.pc word) state.new memory.new }
-    ensures stays { IfRaised result ((state.new ≡ state.old) × (memory.new ≡ memory.old)) }
-    ensures serves { ServesHart buffer.new state.new memory.new }
-    ensures plain { IfPlain result (KeepsContext state.old.virt state.new.virt) }
+    ensures left { LeftBy result buffer.new state.old memory.old state.new memory.new }
 {
     match decode(word) {
         Some(op) => asked(state, memory, buffer, word, &op, found, trap),
@@ -192,9 +184,7 @@ fn register(
     ensures ends { (made : Event) → attempt_of
         (caching_found state.old (entries_of (option_map (λ e. e.now) found.entry))) memory.now
         (csr_asked state.old.virt word) ≡ attempt_by result trap.new made state.new memory.now }
-    ensures stays { IfRaised result (state.new ≡ state.old) }
-    ensures serves { ServesHart buffer.new state.new memory.now }
-    ensures plain { IfPlain result (KeepsContext state.old.virt state.new.virt) }
+    ensures left { LeftBy result buffer.new state.old memory.now state.new memory.now }
 {
     let (op, source) = (csr_op(word), csr_source(word));
     let number = csr_number(word);
@@ -232,9 +222,7 @@ fn decided(
     ensures ends { attempt_with (entries_of (option_map (λ e. e.now) found.entry)) state.old memory.old word
         (meaning op.now state.old.virt.regs)
         ≡ attempt_by result trap.new (event_of state.old.virt.regs.pc word) state.new memory.new }
-    ensures stays { IfRaised result ((state.new ≡ state.old) × (memory.new ≡ memory.old)) }
-    ensures serves { ServesHart buffer.new state.new memory.new }
-    ensures plain { IfPlain result (KeepsContext state.old.virt state.new.virt) }
+    ensures left { LeftBy result buffer.new state.old memory.old state.new memory.new }
 {
     match refusal_of(op, &state.virt.csrs.hstatus, state.virt.mode) {
         Some(end) => raise(state.virt.mode, refusal_code(end), word as u64, trap),
@@ -258,9 +246,7 @@ fn asked(
     ensures ends { attempt_with (entries_of (option_map (λ e. e.now) found.entry)) state.old memory.old word
         (meaning op.now state.old.virt.regs)
         ≡ attempt_by result trap.new (event_of state.old.virt.regs.pc word) state.new memory.new }
-    ensures stays { IfRaised result ((state.new ≡ state.old) × (memory.new ≡ memory.old)) }
-    ensures serves { ServesHart buffer.new state.new memory.new }
-    ensures plain { IfPlain result (KeepsContext state.old.virt state.new.virt) }
+    ensures left { LeftBy result buffer.new state.old memory.old state.new memory.new }
 {
     let effect = effect_of(op, &state.virt.regs);
     apply(state, memory, buffer, word, effect, found, trap)
@@ -282,9 +268,7 @@ fn apply(
     ensures ends { attempt_with
         (entries_of (option_map (λ e. e.now) found.entry)) state.old memory.old word effect
         ≡ attempt_by result trap.new (event_of state.old.virt.regs.pc word) state.new memory.new }
-    ensures stays { IfRaised result ((state.new ≡ state.old) × (memory.new ≡ memory.old)) }
-    ensures serves { ServesHart buffer.new state.new memory.new }
-    ensures plain { IfPlain result (KeepsContext state.old.virt state.new.virt) }
+    ensures left { LeftBy result buffer.new state.old memory.old state.new memory.new }
 {
     match effect {
         Effect::Sets { rd, value, next } => {
@@ -318,9 +302,7 @@ fn data(
         (found_over memory.old state.old wanted.address wanted.width (kind_of wanted.purpose))) memory.old
         (accessed_data (mmu_on state.old memory.old) state.old.virt event wanted)
         ≡ attempt_by result trap.new event state.new memory.new }
-    ensures stays { IfRaised result ((state.new ≡ state.old) × (memory.new ≡ memory.old)) }
-    ensures serves { ServesHart buffer.new state.new memory.new }
-    ensures plain { IfPlain result (KeepsContext state.old.virt state.new.virt) }
+    ensures left { LeftBy result buffer.new state.old memory.old state.new memory.new }
 {
     match found {
         Some(_) => access_data_anew(state, memory, buffer, wanted, found, trap),
@@ -360,9 +342,7 @@ fn privileged(
         (caching_found state.old (entries_of (option_map (λ e. e.now) found.entry))) memory.now
         (privileged state.old.virt word effect)
         ≡ attempt_by result trap.new made state.new memory.now }
-    ensures stays { IfRaised result (state.new ≡ state.old) }
-    ensures serves { ServesHart buffer.new state.new memory.now }
-    ensures plain { IfPlain result (KeepsContext state.old.virt state.new.virt) }
+    ensures left { LeftBy result buffer.new state.old memory.now state.new memory.now }
 {
     match perform(&mut state.virt, effect) {
         Performed::Done => {

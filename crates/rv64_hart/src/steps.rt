@@ -9,10 +9,9 @@ ghost use Rattle.op_defs.specs.Table.{is_system, op_of};
 ghost use Rattle.machine_defs.specs.Core.{core, event_of};
 ghost use Rattle.machine_defs.specs.FirstLeaves.{entries_of};
 ghost use Rattle.translation_buffer.specs.Serving.{ServesHart};
-ghost use Rattle.rv64_hart.specs.Counts.{OnlyTrace};
-ghost use Rattle.rv64_hart.specs.Endings.{HasMade, IfLeft, IfPlain, IfRaised, IsCommonStretch, IsNext, IsStretch, NoneDueIfQuiet, KeepsContext, RunsOn, attempt_at, attempt_by, attempt_of_effect, attempt_of_word, counted_of, ends_run, is_plain_end, one_of, told_by, told_of};
+ghost use Rattle.rv64_hart.specs.Endings.{HasMade, IfLeft, IfPlain, IsCommonStretch, IsNext, IsStretch, IsTallied, KeepsContext, LeftBy, LeftByCommon, LeftByRound, LeftByStretch, NoneDueIfQuiet, attempt_at, attempt_by, attempt_of_effect, attempt_of_word, counted_of, is_plain_end, one_of, told_by, told_of};
 ghost use Rattle.rv64_hart.specs.MachineMemory.{mmu_on};
-ghost use Rattle.rv64_hart.specs.Steps.{Exits, Raises, attempt_of, found_at_exit, hart_step, hart_steps, next_attempt, one_more_step, progress, progressed, trapped_to, caching_found, with_found_on};
+ghost use Rattle.rv64_hart.specs.Steps.{Exits, Raises, attempt_of, found_at_exit, hart_step, next_attempt, one_more_step, progress, progressed, trapped_to, caching_found, with_found_on};
 
 use crate::accesses::{fetch_place, last_place, load_anew, store_anew, word_at};
 use crate::common_instructions::common;
@@ -45,13 +44,9 @@ pub fn round(
     requires serves { ServesHart buffer.old state.old memory.old }
     requires quiet { NoneDueIfQuiet quiet.old state.old.virt }
     requires some { 0 < most }
-    ensures steps { hart_steps watch result.made
-        (progress state.old memory.old tally.old.trace false)
-        ≡ Some (progress state.new memory.new tally.new.trace (ends_run result.end)) }
-    ensures exits { IfLeft result.end (hart_step state.new memory.new ≡ Exits trap.new) }
+    ensures run { LeftByRound watch result trap.new buffer.new tally.old tally.new
+        state.old memory.old state.new memory.new }
     ensures made { HasMade most result.made result.end }
-    ensures tally { OnlyTrace tally.old tally.new }
-    ensures serves { ServesHart buffer.new state.new memory.new }
     ensures quiet { NoneDueIfQuiet quiet.new state.new.virt }
 {
     let stretch = attempts(state, memory, buffer, most, quiet, tally, trap);
@@ -97,13 +92,9 @@ fn attempts(
     requires serves { ServesHart buffer.old state.old memory.old }
     requires quiet { NoneDueIfQuiet quiet.old state.old.virt }
     requires some { 0 < most }
-    ensures steps { RunsOn result.made state.old memory.old tally.old.trace
-        state.new memory.new tally.new.trace }
-    ensures raises { IfRaised result.end (next_attempt state.new memory.new
-        (due state.new.virt.csrs state.new.virt.mode) ≡ Raises trap.new) }
+    ensures run { LeftByStretch result trap.new buffer.new tally.old tally.new
+        state.old memory.old state.new memory.new }
     ensures made { IsStretch most result.made result.end }
-    ensures tally { OnlyTrace tally.old tally.new }
-    ensures serves { ServesHart buffer.new state.new memory.new }
     ensures quiet { NoneDueIfQuiet quiet.new state.new.virt }
 {
     match due_now(&state.virt, quiet) {
@@ -144,13 +135,9 @@ fn instructions(
     requires serves { ServesHart buffer.old state.old memory.old }
     requires none { due state.old.virt.csrs state.old.virt.mode ≡ None }
     requires some { 0 < most }
-    ensures steps { RunsOn result.made state.old memory.old tally.old.trace
-        state.new memory.new tally.new.trace }
-    ensures raises { IfRaised result.end (next_attempt state.new memory.new
-        (due state.new.virt.csrs state.new.virt.mode) ≡ Raises trap.new) }
+    ensures run { LeftByStretch result trap.new buffer.new tally.old tally.new
+        state.old memory.old state.new memory.new }
     ensures made { IsStretch most result.made result.end }
-    ensures tally { OnlyTrace tally.old tally.new }
-    ensures serves { ServesHart buffer.new state.new memory.new }
     ensures plain { IfPlain result.end (KeepsContext state.old.virt state.new.virt) }
 {
     match fetched(state, memory, buffer) {
@@ -223,13 +210,9 @@ fn first_anew(
 ) -> Stretch
     requires serves { ServesHart buffer.old state.old memory.old }
     requires none { due state.old.virt.csrs state.old.virt.mode ≡ None }
-    ensures steps { RunsOn result.made state.old memory.old tally.old.trace
-        state.new memory.new tally.new.trace }
-    ensures raises { IfRaised result.end (next_attempt state.new memory.new
-        (due state.new.virt.csrs state.new.virt.mode) ≡ Raises trap.new) }
+    ensures run { LeftByStretch result trap.new buffer.new tally.old tally.new
+        state.old memory.old state.new memory.new }
     ensures made { result.made ≡ one_of result.end }
-    ensures tally { OnlyTrace tally.old tally.new }
-    ensures serves { ServesHart buffer.new state.new memory.new }
     ensures plain { IfPlain result.end (KeepsContext state.old.virt state.new.virt) }
 {
     one(instruction_anew(state, memory, buffer, tally, trap))
@@ -249,13 +232,9 @@ fn last(
     requires serves { ServesHart buffer.old state.old memory.old }
     requires none { due state.old.virt.csrs state.old.virt.mode ≡ None }
     requires next { IsNext word state.old memory.old }
-    ensures steps { RunsOn result.made state.old memory.old tally.old.trace
-        state.new memory.new tally.new.trace }
-    ensures raises { IfRaised result.end (next_attempt state.new memory.new
-        (due state.new.virt.csrs state.new.virt.mode) ≡ Raises trap.new) }
+    ensures run { LeftByStretch result trap.new buffer.new tally.old tally.new
+        state.old memory.old state.new memory.new }
     ensures made { result.made ≡ one_of result.end }
-    ensures tally { OnlyTrace tally.old tally.new }
-    ensures serves { ServesHart buffer.new state.new memory.new }
     ensures plain { IfPlain result.end (KeepsContext state.old.virt state.new.virt) }
 {
     one(ended(state, memory, buffer, word, tally, trap))
@@ -277,11 +256,8 @@ fn ended(
     ensures told { told_of tally.old.trace
         (attempt_of_word state.old memory.old word)
         ≡ told_by result trap.new state.new memory.new tally.new.trace }
-    ensures stays { IfRaised result
-        ((state.new ≡ state.old) × (memory.new ≡ memory.old) × (tally.new ≡ tally.old)) }
-    ensures tally { OnlyTrace tally.old tally.new }
-    ensures serves { ServesHart buffer.new state.new memory.new }
-    ensures plain { IfPlain result (KeepsContext state.old.virt state.new.virt) }
+    ensures tally { IsTallied result tally.old tally.new }
+    ensures left { LeftBy result buffer.new state.old memory.old state.new memory.new }
 {
     if is_system(word) {
         counted(state, memory, buffer, word, None, tally, trap)
@@ -305,11 +281,8 @@ fn missed(
     ensures told { told_of tally.old.trace
         (attempt_of_word state.old memory.old word)
         ≡ told_by result trap.new state.new memory.new tally.new.trace }
-    ensures stays { IfRaised result
-        ((state.new ≡ state.old) × (memory.new ≡ memory.old) × (tally.new ≡ tally.old)) }
-    ensures tally { OnlyTrace tally.old tally.new }
-    ensures serves { ServesHart buffer.new state.new memory.new }
-    ensures plain { IfPlain result (KeepsContext state.old.virt state.new.virt) }
+    ensures tally { IsTallied result tally.old tally.new }
+    ensures left { LeftBy result buffer.new state.old memory.old state.new memory.new }
 {
     match decode_common(word) {
         Some(op) => missed_common(state, memory, buffer, word, &op, tally, trap),
@@ -335,11 +308,8 @@ fn missed_common(
     ensures told { told_of tally.old.trace
         (attempt_of_effect state.old memory.old word (meaning op.now state.old.virt.regs))
         ≡ told_by result trap.new state.new memory.new tally.new.trace }
-    ensures stays { IfRaised result
-        ((state.new ≡ state.old) × (memory.new ≡ memory.old) × (tally.new ≡ tally.old)) }
-    ensures tally { OnlyTrace tally.old tally.new }
-    ensures serves { ServesHart buffer.new state.new memory.new }
-    ensures plain { IfPlain result (KeepsContext state.old.virt state.new.virt) }
+    ensures tally { IsTallied result tally.old tally.new }
+    ensures left { LeftBy result buffer.new state.old memory.old state.new memory.new }
 {
     let pc = state.virt.regs.pc;
     let _ = tally.trace();
@@ -368,9 +338,7 @@ fn missed_data(
     requires serves { ServesHart buffer.old state.old memory.old }
     ensures ends { attempt_of_effect state.old memory.old word (meaning op.now state.old.virt.regs)
         ≡ attempt_by result trap.new (event_of state.old.virt.regs.pc word) state.new memory.new }
-    ensures stays { IfRaised result ((state.new ≡ state.old) × (memory.new ≡ memory.old)) }
-    ensures serves { ServesHart buffer.new state.new memory.new }
-    ensures plain { IfPlain result (KeepsContext state.old.virt state.new.virt) }
+    ensures left { LeftBy result buffer.new state.old memory.old state.new memory.new }
 {
     match *op {
         Op::Load {
@@ -414,13 +382,9 @@ fn common_instructions(
     requires none { due state.old.virt.csrs state.old.virt.mode ≡ None }
     requires next { IsNext first state.old memory.old }
     requires some { 0 < most }
-    ensures steps { RunsOn result.made state.old memory.old tally.old.trace
-        state.new memory.new tally.new.trace }
-    ensures next { IfSome result.word (λ word. IsNext word state.new memory.new) }
+    ensures run { LeftByCommon result buffer.now tally.old tally.new
+        state.old memory.old state.new memory.new }
     ensures made { IsCommonStretch most result.made result.word }
-    ensures tally { OnlyTrace tally.old tally.new }
-    ensures serves { ServesHart buffer.now state.new memory.new }
-    ensures context { KeepsContext state.old.virt state.new.virt }
 {
     let mut word = first;
     let mut trace = tally.trace();
@@ -477,7 +441,7 @@ fn trap_step(
 
 // Takes a trap into VS, with what the step has found cached, and leaves one to HS.
 #[tactic(auto, using(crate::proofs::Targets::virtual_to_vs, crate::proofs::Told::nothing_added))]
-#[inline(never)]
+#[inline(always)]
 fn trap_to_target(
     state: &mut HartState,
     memory: &PhysMem,
@@ -549,8 +513,8 @@ fn due_now(state: &Virtual, quiet: &mut bool) -> Option<u64>
     }
 }
 
-// The same by a look at the registers, which would cost the loop of common instructions a machine register.
-#[inline(never)]
+// The same by a look at the registers.
+#[inline(always)]
 fn looked(state: &Virtual) -> Option<u64>
     ensures { result ≡ due state.now.csrs state.now.mode }
 {
@@ -571,11 +535,8 @@ fn instruction_anew(
     ensures told { told_of tally.old.trace (attempt_of (with_found_on state.old memory.old) memory.old
         (core (mmu_on state.old memory.old) state.old.virt))
         ≡ told_by result trap.new state.new memory.new tally.new.trace }
-    ensures stays { IfRaised result
-        ((state.new ≡ state.old) × (memory.new ≡ memory.old) × (tally.new ≡ tally.old)) }
-    ensures tally { OnlyTrace tally.old tally.new }
-    ensures serves { ServesHart buffer.new state.new memory.new }
-    ensures plain { IfPlain result (KeepsContext state.old.virt state.new.virt) }
+    ensures tally { IsTallied result tally.old tally.new }
+    ensures left { LeftBy result buffer.new state.old memory.old state.new memory.new }
 {
     let pc = state.virt.regs.pc;
     let (width, access) = (Width::Word, Access::Fetch);
@@ -614,11 +575,8 @@ fn counted(
     ensures told { told_of tally.old.trace
         (attempt_at (entries_of (option_map (λ e. e.now) found.entry)) state.old memory.old word)
         ≡ told_by result trap.new state.new memory.new tally.new.trace }
-    ensures stays { IfRaised result
-        ((state.new ≡ state.old) × (memory.new ≡ memory.old) × (tally.new ≡ tally.old)) }
-    ensures tally { OnlyTrace tally.old tally.new }
-    ensures serves { ServesHart buffer.new state.new memory.new }
-    ensures plain { IfPlain result (KeepsContext state.old.virt state.new.virt) }
+    ensures tally { IsTallied result tally.old tally.new }
+    ensures left { LeftBy result buffer.new state.old memory.old state.new memory.new }
 {
     let pc = state.virt.regs.pc;
     let _ = tally.trace();

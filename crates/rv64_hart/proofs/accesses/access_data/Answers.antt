@@ -12,13 +12,13 @@ returns-in-Some-clause-ends c = λ event.
     c.args.state.now c.access_place.new.state c.args.memory.now c.complete.new.mem c.kind_of-access.result event c.args.wanted c.in-Some.at c.complete.new.state
     c.kind_of-access.ensures c.in-Some.ensures.located c.in-Some.ensures.found c.complete.ensures.state c.complete.ensures.bytes
 
-pub returns-in-Some-clause-serves : goal.returns-in-Some-clause-serves
-returns-in-Some-clause-serves c =
-    serves_after c.open.new.self c.access_place.new.state c.complete.new.state c.args.memory.now c.complete.new.mem c.args.wanted.width c.args.wanted.purpose c.in-Some.at
-    (c.open.ensures.serves c.access_place.new.state.virt.first c.access_place.new.state.tag c.access_place.new.state.virt.csrs c.access_place.new.state.virt.mode c.args.memory.now c.access_place.ensures.serves)
-    c.open.ensures.apart c.in-Some.ensures.place c.complete.ensures.state c.complete.ensures.bytes
-
-pub returns-in-Some-clause-plain : goal.returns-in-Some-clause-plain
-returns-in-Some-clause-plain c =
+pub returns-in-Some-clause-left : goal.returns-in-Some-clause-left
+returns-in-Some-clause-left c =
     let (csrs, mode) = keeps_after (reading_of (machine_memory c.args.memory.now)) c.access_place.new.state.virt c.complete.new.state c.args.wanted.width c.args.wanted.purpose c.in-Some.at c.complete.ensures.state in
-    (csrs ∙ ap (λ (s : HartState). s.virt.csrs) c.in-Some.ensures.found, mode ∙ ap (λ (s : HartState). s.virt.mode) c.in-Some.ensures.found)
+    record {
+      stays = tt;
+      serves = serves_after c.open.new.self c.access_place.new.state c.complete.new.state c.args.memory.now c.complete.new.mem c.args.wanted.width c.args.wanted.purpose c.in-Some.at
+          (c.open.ensures.serves c.access_place.new.state.virt.first c.access_place.new.state.tag c.access_place.new.state.virt.csrs c.access_place.new.state.virt.mode c.args.memory.now c.access_place.ensures.serves)
+          c.open.ensures.apart c.in-Some.ensures.place c.complete.ensures.state c.complete.ensures.bytes;
+      plain = (csrs ∙ ap (λ (s : HartState). s.virt.csrs) c.in-Some.ensures.found, mode ∙ ap (λ (s : HartState). s.virt.mode) c.in-Some.ensures.found);
+    }

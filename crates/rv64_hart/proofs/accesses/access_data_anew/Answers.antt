@@ -19,15 +19,15 @@ returns-in-Some-clause-ends c = λ event.
     c.kind_of-access.ensures (found c.args.state.now.virt.csrs c.args.memory.now _ c.in-Some.at (ap (λ r. ok_or r c.reach.new.trap) (sym c.in-Some.is) ∙ c.reach.ensures.place))
     (ap (caching c.args.state.now) filled) c.complete.ensures.state c.complete.ensures.bytes
 
-pub returns-in-Some-clause-serves : goal.returns-in-Some-clause-serves
-returns-in-Some-clause-serves c =
+pub returns-in-Some-clause-left : goal.returns-in-Some-clause-left
+returns-in-Some-clause-left c =
     let inside : IsPlaceFor (machine_memory c.args.memory.now) c.args.wanted.width c.in-Some.at = search rules in
-    serves_after c.open.new.self (caching c.args.state.now c.cache-in-Some.new.first) c.complete.new.state c.args.memory.now c.complete.new.mem c.args.wanted.width c.args.wanted.purpose c.in-Some.at
-    (c.open.ensures.serves c.cache-in-Some.new.first c.args.state.now.tag c.args.state.now.virt.csrs c.args.state.now.virt.mode c.args.memory.now
-    (c.cache-in-Some.ensures.serves c.args.state.now.tag c.args.state.now.virt.csrs c.args.state.now.virt.mode c.args.memory.now
-    (c.cache.ensures.serves c.args.state.now.tag c.args.state.now.virt.csrs c.args.state.now.virt.mode c.args.memory.now c.requires.serves)))
-    c.open.ensures.apart inside c.complete.ensures.state c.complete.ensures.bytes
-
-pub returns-in-Some-clause-plain : goal.returns-in-Some-clause-plain
-returns-in-Some-clause-plain c =
-    keeps_after (reading_of (machine_memory c.args.memory.now)) (caching c.args.state.now c.cache-in-Some.new.first).virt c.complete.new.state c.args.wanted.width c.args.wanted.purpose c.in-Some.at c.complete.ensures.state
+    record {
+      stays = tt;
+      serves = serves_after c.open.new.self (caching c.args.state.now c.cache-in-Some.new.first) c.complete.new.state c.args.memory.now c.complete.new.mem c.args.wanted.width c.args.wanted.purpose c.in-Some.at
+          (c.open.ensures.serves c.cache-in-Some.new.first c.args.state.now.tag c.args.state.now.virt.csrs c.args.state.now.virt.mode c.args.memory.now
+          (c.cache-in-Some.ensures.serves c.args.state.now.tag c.args.state.now.virt.csrs c.args.state.now.virt.mode c.args.memory.now
+          (c.cache.ensures.serves c.args.state.now.tag c.args.state.now.virt.csrs c.args.state.now.virt.mode c.args.memory.now c.requires.serves)))
+          c.open.ensures.apart inside c.complete.ensures.state c.complete.ensures.bytes;
+      plain = keeps_after (reading_of (machine_memory c.args.memory.now)) (caching c.args.state.now c.cache-in-Some.new.first).virt c.complete.new.state c.args.wanted.width c.args.wanted.purpose c.in-Some.at c.complete.ensures.state;
+    }

@@ -29,32 +29,48 @@ returns-in-FirstFenced-clause-ends c made =
     subst (KeepsFirst c.args.state.now.virt) (c.in-FirstFenced.ensures.ends c.args.word) (privileged_first c.args.state.now.virt c.args.word c.args.effect) in
     rw (c.in-FirstFenced.ensures.ends c.args.word, c.fence_first.ensures.state, c.cache.ensures.filled, keeps) refl
 
-pub returns-in-Done-clause-serves : goal.returns-in-Done-clause-serves
-returns-in-Done-clause-serves c =
+pub returns-in-Done-clause-left : goal.returns-in-Done-clause-left
+returns-in-Done-clause-left c =
     let keeps : c.perform.new.state.first ≡ c.args.state.now.virt.first =
     subst (KeepsFirst c.args.state.now.virt) (c.in-Done.ensures.ends c.args.word) (privileged_first c.args.state.now.virt c.args.word c.args.effect) in
-    c.settle.ensures.serves c.args.state.now.virt.csrs c.args.state.now.virt.mode c.args.memory.now
-    (subst (λ first. Serves c.args.buffer.now first c.args.state.now.tag c.args.state.now.virt.csrs c.args.state.now.virt.mode c.args.memory.now) (sym keeps) c.requires.serves)
+    record {
+      stays = tt;
+      serves = c.settle.ensures.serves c.args.state.now.virt.csrs c.args.state.now.virt.mode c.args.memory.now
+          (subst (λ first. Serves c.args.buffer.now first c.args.state.now.tag c.args.state.now.virt.csrs c.args.state.now.virt.mode c.args.memory.now) (sym keeps) c.requires.serves);
+      plain = tt;
+    }
 
-pub returns-in-Waits-clause-serves : goal.returns-in-Waits-clause-serves
-returns-in-Waits-clause-serves c =
+pub returns-in-Waits-clause-left : goal.returns-in-Waits-clause-left
+returns-in-Waits-clause-left c =
     let keeps : c.perform.new.state.first ≡ c.args.state.now.virt.first =
     subst (KeepsFirst c.args.state.now.virt) (c.in-Waits.ensures.ends c.args.word) (privileged_first c.args.state.now.virt c.args.word c.args.effect) in
-    c.settle-in-Waits.ensures.serves c.args.state.now.virt.csrs c.args.state.now.virt.mode c.args.memory.now
-    (subst (λ first. Serves c.args.buffer.now first c.args.state.now.tag c.args.state.now.virt.csrs c.args.state.now.virt.mode c.args.memory.now) (sym keeps) c.requires.serves)
+    record {
+      stays = tt;
+      serves = c.settle-in-Waits.ensures.serves c.args.state.now.virt.csrs c.args.state.now.virt.mode c.args.memory.now
+          (subst (λ first. Serves c.args.buffer.now first c.args.state.now.tag c.args.state.now.virt.csrs c.args.state.now.virt.mode c.args.memory.now) (sym keeps) c.requires.serves);
+      plain = tt;
+    }
 
-pub returns-in-Fenced-clause-serves : goal.returns-in-Fenced-clause-serves
-returns-in-Fenced-clause-serves c =
+pub returns-in-Fenced-clause-left : goal.returns-in-Fenced-clause-left
+returns-in-Fenced-clause-left c =
     let keeps : c.perform.new.state.first ≡ c.args.state.now.virt.first =
     subst (KeepsFirst c.args.state.now.virt) (c.in-Fenced.ensures.ends c.args.word) (privileged_first c.args.state.now.virt c.args.word c.args.effect) in
-    c.settle-in-Fenced.ensures.serves c.args.state.now.virt.csrs c.args.state.now.virt.mode c.args.memory.now
-    (subst (λ first. Serves c.args.buffer.now first c.args.state.now.tag c.args.state.now.virt.csrs c.args.state.now.virt.mode c.args.memory.now) (sym keeps) c.requires.serves)
+    record {
+      stays = tt;
+      serves = c.settle-in-Fenced.ensures.serves c.args.state.now.virt.csrs c.args.state.now.virt.mode c.args.memory.now
+          (subst (λ first. Serves c.args.buffer.now first c.args.state.now.tag c.args.state.now.virt.csrs c.args.state.now.virt.mode c.args.memory.now) (sym keeps) c.requires.serves);
+      plain = tt;
+    }
 
-pub returns-in-FirstFenced-clause-serves : goal.returns-in-FirstFenced-clause-serves
-returns-in-FirstFenced-clause-serves c =
+pub returns-in-FirstFenced-clause-left : goal.returns-in-FirstFenced-clause-left
+returns-in-FirstFenced-clause-left c =
     let keeps : c.perform.new.state.first ≡ c.args.state.now.virt.first =
     subst (KeepsFirst c.args.state.now.virt) (c.in-FirstFenced.ensures.ends c.args.word) (privileged_first c.args.state.now.virt c.args.word c.args.effect) in
     let stays : FenceKeeps c.args.state.now.virt (FirstFenced c.perform.new.state c.in-FirstFenced.named c.in-FirstFenced.fence) =
     subst (FenceKeeps c.args.state.now.virt) (c.in-FirstFenced.ensures.ends c.args.word) (fence_keeps c.args.state.now.virt c.args.word c.args.effect) in
-    c.fence_first.ensures.serves c.args.memory.now (c.cache.ensures.serves c.args.state.now.tag c.perform.new.state.csrs c.perform.new.state.mode c.args.memory.now
-    (rw (keeps, stays.0, stays.1) c.requires.serves))
+    record {
+      stays = tt;
+      serves = c.fence_first.ensures.serves c.args.memory.now (c.cache.ensures.serves c.args.state.now.tag c.perform.new.state.csrs c.perform.new.state.mode c.args.memory.now
+          (rw (keeps, stays.0, stays.1) c.requires.serves));
+      plain = tt;
+    }
