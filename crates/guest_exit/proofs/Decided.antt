@@ -1,5 +1,5 @@
 -- An instruction on which the mode decides: its word, its op and its effect.
-use Rattle.std.specs.Prelude.{if◌then◌else◌}
+use Rattle.std.specs.Prelude.{◌≢◌, if◌then◌else◌}
 use Rattle.std.proofs.Common.{◌≡◌, List, ℕ, Bool, true, false, Option, Some, None, refl, subst}
 use Rattle.std.proofs.lemmas.Option.{same_Some}
 use Rattle.arch_defs.specs.declared.csr_names.CsrEnd.{CsrEnd}
@@ -21,6 +21,7 @@ use Rattle.machine_defs.specs.Core.{decoded}
 use Rattle.machine_defs.specs.Machine.{Machine}
 use Rattle.arch_defs.specs.Registers.{passed}
 use Rattle.machine_defs.specs.Outcomes.{Outcome, Accesses, Done, Waits}
+use Rattle.machine_defs.specs.Runs.{event_in, left_by}
 use Rattle.machine_defs.specs.Privileges as privileges
 use Rattle.machine_defs.specs.Privileges.{performed, privileged, refusal}
 use Rattle.run_laws.specs.StorableStates.{IsStorable}
@@ -32,8 +33,13 @@ use Rattle.rv64_asm.specs.Fitting.{fits}
 use Rattle.rv64_asm.specs.Words.{encoded}
 use Rattle.rv64_asm.proofs.Decoded as coded
 use Rattle.hcsr_emulation.specs.Ends.{is_decided}
-use Rattle.hosted_steps.specs.ExitCases.{decided_end}
-use Rattle.guest_exit.specs.HartExit.{IsDecidedOp, IsWaitOrFence}
+use Rattle.hosted_steps.specs.ExitCases.{Instruction, decided_end}
+use Rattle.guest_exit.specs.declared.guests.Guest.{Guest}
+use Rattle.guest_exit.specs.declared.hart_exit.Handled.{Handled}
+use Rattle.guest_exit.specs.declared.hart_exit.Handled.TheVariants.{Retry, Stopped}
+use Rattle.guest_exit.specs.HartExit.{IsDecidedOp, IsMadeFor, IsTold, IsWaitOrFence, KeepsOutside, events_told, try_left}
+use Rattle.guest_exit.specs.Steps.{IsNotPlain}
+use Rattle.guest_exit.specs.View.{machine_of}
 
 -- the mode decides on the op that a word gives, and its fields fit
 by_test : (word : ℕ) (o p : Op) (test : Bool) → is_decided p ≡ test → op_of word ≡ Some p → (if test then Some p else None) ≡ Some o → IsDecidedOp o
@@ -131,3 +137,17 @@ kept_first m op end is = subst (KeepsFirst m.platform.virt) is (decoded_first m.
 -- and holds what registers can store, whatever is cached
 pub caching_storable : (first : List FirstEntry) (s : Virtual) → IsStorable s → IsStorable (record s { first = first })
 caching_storable first s is = record { x0 = is.x0; pc = is.pc; csrs = is.csrs; reservation = is.reservation }
+
+-- it is made where the host neither fills nor stops for it
+pub decided_made : (o : Op) (result : Handled) (before after : Guest) (memory changed : List ℕ) → result ≢ Retry → result ≢ Stopped
+    → machine_of after changed ≡ left_by (machine_of before memory) (try_left (machine_of before memory) (Instruction o))
+    → IsNotPlain (try_left (machine_of before memory) (Instruction o)) → event_in (try_left (machine_of before memory) (Instruction o)) ≡ events_told result
+    → IsTold result before after → KeepsOutside before memory after changed → IsMadeFor (Instruction o) result before memory after changed
+decided_made o result before after memory changed went runs step quiet event told within = record {
+  makes = record { ready = λ went. refl; step = λ went. step; fill = λ retry. absurd (went retry) };
+  stops = (λ e. absurd (runs e), λ stop. absurd (cc));
+  quiet = quiet;
+  event = λ went. event;
+  told = told;
+  within = within;
+}

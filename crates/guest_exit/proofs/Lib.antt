@@ -10,6 +10,7 @@ pub mod Missed
 pub mod Moments
 pub mod NextSteps
 pub mod NoTable
+pub mod Pending
 pub mod Placed
 pub mod Pools
 pub mod SingleEntries

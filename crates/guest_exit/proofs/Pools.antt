@@ -3,20 +3,16 @@ use Rattle.std.proofs.Common.{◌≡◌, ℕ, ◌*◌, ◌≤◌, List, length, 
 use Rattle.arch_defs.specs.Frames.{Apart, Only, Within, in_blocks, joined}
 use Rattle.arch_defs.specs.Layouts.{Layout, NamesEachOnce, host_frames, in_tables, named_by}
 use Rattle.arch_defs.specs.Memory.{block_size}
-use Rattle.arch_defs.specs.Ram.{SlicesLieIn, ram_of}
+use Rattle.arch_defs.specs.Ram.{ram_of}
 use Rattle.arch_defs.proofs.FrameSets.{apart_sym, joined_within, kept, left_within}
 use Rattle.arch_defs.proofs.Naming.{apart_joined}
-use Rattle.arch_defs.proofs.RamBlocks.{blocks_lie_in, ram_kept, ram_length}
-use Rattle.arch_defs.proofs.Rooms.{first_lies}
+use Rattle.arch_defs.proofs.RamBlocks.{ram_kept, ram_length}
 use Rattle.host_tables.specs.Walks.{IsHeld}
+use Rattle.hosted_steps.proofs.Followed.{blocks_held}
 use Rattle.host_tables.proofs.Held.{held_stays, host_apart_from_blocks}
 use Rattle.shadow_pool.specs.Slots.{Pooled, TidyPool, pool_frames, room_of, table_frames_for}
 use Rattle.shadow_pool.proofs.Apart.{host_apart, pool_within, ram_apart}
 use Rattle.shadow_pool.proofs.Front.{pool_lasts}
-
--- the blocks of a part that memory holds lie in it
-pub blocks_held : (part : Layout) (memory : List ℕ) → IsHeld part memory → SlicesLieIn block_size part.blocks (length memory)
-blocks_held part memory held = blocks_lie_in part.blocks (length memory) (first_lies (in_blocks part.blocks) (in_tables part) (length memory) held.lies)
 
 pub size_of : (part : Layout) (memory : List ℕ) → IsHeld part memory → length (ram_of part.blocks memory) ≡ length part.blocks * block_size
 size_of part memory held = ram_length part.blocks memory (blocks_held part memory held)

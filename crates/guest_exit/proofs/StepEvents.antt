@@ -1,7 +1,6 @@
 -- What the event of one step can be, on the hart and of the machine.
 use Rattle.std.specs.Prelude.{◌==◌, ◌%◌, ◌^◌, ◌&&◌, not, is_some}
 use Rattle.std.proofs.Common.{cond, ◌≡◌, ℕ, zero, suc, ◌+◌, ◌<◌, ◌≤◌, ◌∙◌, Bool, true, false, List, [], ◌∷◌, Option, Some, None, Ok, Err, Result, nat_eq, refl, ap, sym, subst, arith}
-use Rattle.std.proofs.lemmas.Bool.{eqb-false, ne_eqb}
 use Rattle.std.proofs.lemmas.Option.{none-some, same_Some}
 use Rattle.arch_defs.specs.declared.csr_names.CsrEnd.{CsrEnd}
 use Rattle.arch_defs.specs.declared.hart_states.HartState.{HartState}
@@ -38,7 +37,6 @@ use Rattle.op_defs.specs.declared.ops.Effect.TheVariants.{Sets, Raises, Data, Ca
 use Rattle.op_defs.specs.declared.ops.Op.{Op}
 use Rattle.op_defs.specs.declared.ops.Privileged.{Privileged}
 use Rattle.op_defs.specs.declared.ops.Privileged.TheVariants.{Csr, Sret, Wfi, SfenceVma, HfenceVvma, HfenceGvma, HlvAccess}
-use Rattle.op_defs.specs.Fields.{opcode}
 use Rattle.op_defs.specs.Meaning.{meaning}
 use Rattle.op_defs.specs.Table.{is_system, op_of}
 use Rattle.machine_defs.specs.declared.events.Event.{Event}
@@ -49,6 +47,7 @@ use Rattle.machine_defs.specs.Privileges.{combined, csr_changed, csr_shown, deci
 use Rattle.machine_defs.specs.Machine.{Machine}
 use Rattle.machine_defs.specs.Runs.{event_in, pc_and_word}
 use Rattle.machine_defs.specs.Tries.{try}
+use Rattle.rv64_decode.proofs.Indices.{other_opcode}
 use Rattle.rv64_hart.specs.Counts.{IsRaisedBy}
 use Rattle.rv64_hart.specs.MachineMemory.{mmu_on}
 use Rattle.rv64_hart.specs.Steps.{Attempt, Exits, Goes, HartEnd, Makes, Progress, Raises as Traps, attempt_of, end_by, enters_vs, found_at_exit, hart_step, hart_steps, next_attempt, one_more_step, progress, progressed, trapped_to, caching_found, with_found_on}
@@ -60,9 +59,6 @@ use Rattle.hosted_steps.proofs.Followed.{followed}
 use Rattle.hosted_steps.proofs.Interrupts.{IsDue, due_alike}
 
 -- the words of instructions end in 11
-other_opcode : (word opcode_of : ℕ) → nat_eq (word % 4) 3 ≡ false → opcode_of % 4 ≡ 3 → nat_eq (opcode word) opcode_of ≡ false
-other_opcode word opcode_of other low = ne_eqb (opcode word) opcode_of (λ same. eqb-false (word % 4) 3 other (omega (arith, same, low)))
-
 none_else : (word : ℕ) → nat_eq (word % 4) 3 ≡ false → op_of word ≡ None
 unfolding op_of
 none_else word other = rw (
@@ -89,7 +85,7 @@ ends_in_11 word o is = by (nat_eq (word % 4) 3) refl
     by true e = grind (arith, e)
     by false e = let never : Some o ≡ None = sym is ∙ none_else word e in absurd (cc)
 
--- what is known of the event of an instruction at pc that does not trap, and that a trap of its own is no interrupt
+-- what is known of the event of an instruction at pc that does not trap, and that a trap of its own is not an interrupt
 record IsPlain (pc word : ℕ) (at : ℕ) : Type 0 where
   place : at ≡ pc
   small : word < 2 ^ 32

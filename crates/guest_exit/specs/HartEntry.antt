@@ -10,7 +10,7 @@ use Rattle.arch_defs.specs.Traps.{is_virtual}
 use Rattle.machine_defs.specs.declared.events.Event.TheVariants as event
 use Rattle.guest_settings.specs.declared.statuses.Status.TheVariants.{Running}
 use Rattle.machine_defs.specs.Machine.{Machine, Platform, with_pending_lines}
-use Rattle.machine_defs.specs.Runs.{event_in, run}
+use Rattle.machine_defs.specs.Runs.{event_in, events, run, trace_of}
 use Rattle.machine_defs.specs.Tries.{try}
 use Rattle.rv64_hart.specs.declared.harts.Stop.{Stop}
 use Rattle.rv64_hart.specs.declared.harts.Why.{Why}
@@ -24,7 +24,8 @@ use Rattle.guest_exit.specs.declared.guests.Guest.{Guest}
 use Rattle.guest_exit.specs.declared.hart_entry.Entered.{Entered}
 use Rattle.guest_exit.specs.declared.hart_entry.Entered.TheVariants.{Made, Left}
 use Rattle.hosted_steps.specs.HartSteps.{host_takes, root_for}
-use Rattle.guest_exit.specs.View.{IsPlaced, KeepsSpaces, loaded_for, platform_of}
+use Rattle.guest_exit.specs.Steps.{MakesSteps}
+use Rattle.guest_exit.specs.View.{IsPlaced, KeepsSpaces, loaded_for, machine_of, platform_of}
 
 -- at each of that many steps, whether something has come is the same as it is now
 abbrev pub KeepsCome : (ℕ → Bool) → ℕ → ℕ → Type 0
@@ -38,6 +39,13 @@ pub record Lasts (p : Platform) (limit : ℕ) : Type 0 where
   pub interrupts : 1 < limit → waits_for_hs p.virt.csrs ≡ false
   pub timer : KeepsCome (nat_le p.clock.timer) p.clock.time limit
   pub inputs : KeepsCome (has_input p.console.inputs) p.clock.time limit
+
+-- of at most that many steps this is the largest number for which that holds
+pub record IsLongest (p : Platform) (bound limit : ℕ) : Type 0 where
+  pub lasts : Lasts p limit
+  pub some : 1 ≤ limit
+  pub most : limit ≤ bound
+  pub largest : (n : ℕ) → n ≤ bound → Lasts p n → n ≤ limit
 
 -- a guest may enter the hart for that many steps: nothing that the hart does not have for it changes in them,
 -- and its clock and its count of steps have room for them
@@ -87,7 +95,8 @@ pub record EndsInTrap (m : Machine) (n : ℕ) : Type 0 where
   pub trap : (interrupt : Bool) × (event_in (try (run m (n - 1))) ≡ event.Trap HS interrupt ∷ [])
 
 -- why an entry ended, by the machine before it, and the machine and the memory after it
-abbrev pub IsStopped : Layout → Pooled → Machine → Machine → List ℕ → ℕ → ℕ → Why → Type 0
+abbrev pub IsStopped : Layout → Pooled → Machine → Machine → List ℕ → ℕ → ℕ → Why
+    → Type 0
 IsStopped part pool before after memory limit taken Limit = taken ≡ limit
 IsStopped part pool before after memory limit taken VsTrap = EndsInTrap before taken
 IsStopped part pool before after memory limit taken (Exit trap) =
@@ -136,7 +145,17 @@ pub record GoesOn (taken : ℕ) (before after : Guest) : Type 0 where
 
 -- of machine memory only bytes of the guest's blocks change, and it holds the guest's part as before, whose
 -- spaces stay
-pub record KeepsTables (before : Guest) (memory : List ℕ) (after : Guest) (changed : List ℕ) : Type 0 where
+pub record KeepsTables (before : Guest) (memory : List ℕ)
+    (after : Guest) (changed : List ℕ) : Type 0 where
   pub only : Only (in_blocks before.part.blocks) memory changed
   pub placed : IsPlaced after changed
   pub keeps : KeepsSpaces before after
+
+-- an entry of the hart has made that many steps of a guest: its machine has made them, it goes on, of machine
+-- memory its blocks alone have changed, and the account tells of the entry
+pub record HasEntered (taken : ℕ) (before : Guest) (memory : List ℕ) (after : Guest) (changed : List ℕ)
+    (tally counted : Counts) : Type 0 where
+  pub run : MakesSteps taken (machine_of before memory) (machine_of after changed)
+  pub goes : GoesOn taken before after
+  pub keeps : KeepsTables before memory after changed
+  pub account : IsAccounted taken (trace_of (events (machine_of before memory) taken)) tally counted

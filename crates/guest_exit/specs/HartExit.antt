@@ -15,10 +15,13 @@ use Rattle.machine_defs.specs.declared.events.Event.TheVariants as event
 use Rattle.guest_settings.specs.declared.statuses.Status.{Status}
 use Rattle.guest_settings.specs.declared.statuses.Status.TheVariants as status
 use Rattle.machine_defs.specs.Fills.{fill}
-use Rattle.machine_defs.specs.Machine.{Machine, Tried, with_pending_lines}
+use Rattle.machine_defs.specs.Machine.{Machine, Tried, WaitsForGood, with_pending_lines}
 use Rattle.machine_defs.specs.Outcomes.{Fenced}
 use Rattle.machine_defs.specs.Runs.{event_in, left_by}
-use Rattle.machine_defs.specs.Tries.{apply_outcome, committed, device_of}
+use Rattle.machine_defs.specs.Tries.{apply_outcome, committed, device_of, try}
+use Rattle.run_laws.specs.StorableStates.{IsStorable}
+use Rattle.rv64_hart.specs.declared.leaves.Leaves.{Leaves}
+use Rattle.rv64_hart.specs.Leaves.{LeavesFit}
 use Rattle.host_tables.specs.Walks.{IsHeld}
 use Rattle.shadow_pool.specs.Slots.{TidyPool}
 use Rattle.rv64_asm.specs.Fitting.{fits}
@@ -29,8 +32,8 @@ use Rattle.guest_exit.specs.declared.hart_exit.Handled.TheVariants.{Stepped, Tra
 use Rattle.hosted_steps.specs.ExitCases.{Exit, Instruction, Missing, Call, Own, entry_for_exit, found_next, try_at}
 use Rattle.hosted_steps.specs.HartSteps.{host_takes}
 use Rattle.guest_exit.specs.HartEntry.{Hands}
-use Rattle.guest_exit.specs.Steps.{CanStep, Fills, IsNotPlain, MakesStep}
-use Rattle.guest_exit.specs.View.{IsPlaced, KeepsLayout, changed_by, machine_of, platform_of}
+use Rattle.guest_exit.specs.Steps.{CanStep, Fills, IsMiss, IsNotPlain, Makes, MakesStep}
+use Rattle.guest_exit.specs.View.{IsPlaced, KeepsLayout, KeepsSpaces, changed_by, machine_of, platform_of}
 
 -- a guest may go on by one step: the registers that the clock sets are as the clock has them, and memory
 -- holds its part
@@ -90,14 +93,40 @@ abbrev pub TellsEvent : Handled → Guest → (Machine → Tried) → Type 0
 TellsEvent result before tried =
     (memory : List ℕ) → event_in (tried (machine_of before memory)) ≡ events_told result
 
+-- a try is not one of the hart's plain steps, and its event is as the answer tells
+pub record TellsTry (result : Handled) (tried : Tried) : Type 0 where
+  pub quiet : IsNotPlain tried
+  pub event : IsToldEvent result tried
+
+-- the answer says whether a fill was made, since the machine's next try lacks a cached translation, whether
+-- that waits for good, and whether it is the call that stops the machine
+pub record TellsNext (result : Handled) (left : Exit) (m : Machine) : Type 0 where
+  pub retry : (result ≡ Retry) ↔ IsMiss m
+  pub waits : (result ≡ Waits) ↔ (try m ≡ WaitsForGood)
+  pub stops : (result ≡ Stopped) ↔ IsStopCall left m.platform.virt
+
 -- a guest's status, count of steps and clock are as the host's answer tells
 pub record IsTold (result : Handled) (before after : Guest) : Type 0 where
   pub status : after.status ≡ status_after result
   pub made : after.steps ≡ before.steps + steps_made result
   pub clock : after.clock.time ≤ 2 ^ 62 + after.steps
 
+-- a step of the guest's machine is made by this try, the host's answer tells it, and the spaces stay
+pub record MakesTold (result : Handled) (before after : Guest) (tried : Machine → Tried) : Type 0 where
+  pub step : Makes before after tried
+  pub event : TellsEvent result before tried
+  pub told : IsTold result before after
+  pub keeps : KeepsSpaces before after
+
+-- a guest may make a WFI, which has found these first-stage translations
+pub record CanWait (guest : Guest) (found : Leaves) : Type 0 where
+  pub step : CanStep guest
+  pub current : with_pending_lines (platform_of guest) ≡ platform_of guest
+  pub fits : LeavesFit found
+
 -- what the host makes changes machine memory in the guest's own frames alone, where its pool is tidy then
-pub record KeepsOutside (before : Guest) (memory : List ℕ) (after : Guest) (changed : List ℕ) : Type 0 where
+pub record KeepsOutside (before : Guest) (memory : List ℕ)
+    (after : Guest) (changed : List ℕ) : Type 0 where
   pub only : Only (changed_by before) memory changed
   pub tidy : TidyPool after.pool changed
   pub keeps : KeepsLayout before after
@@ -114,6 +143,12 @@ pub record HoldsTables (guest : Guest) (memory : List ℕ) : Type 0 where
   pub held : IsHeld guest.part memory
   pub own : guest.pool.part ≡ guest.part
   pub tidy : TidyPool guest.pool memory
+
+-- an instruction has left a guest its state, with which the step may end
+pub record CanFinish (guest : Guest) (memory : List ℕ) : Type 0 where
+  pub step : CanStep guest
+  pub holds : HoldsTables guest memory
+  pub storable : IsStorable guest.virt
 
 -- a guest with another state, or with another pc
 abbrev pub with_state : Guest → Virtual → Guest
@@ -165,7 +200,8 @@ try_left m left = try_at (found_next m) m left
 pub record IsMadeOf (left : Exit) (result : Handled) (before after : Machine) : Type 0 where
   pub ready : result ≢ Retry → entry_for_exit before left ≡ None
   pub step : result ≢ Retry → after ≡ left_by before (try_left before left)
-  pub fill : result ≡ Retry → (e : Entry) × (entry_for_exit before left ≡ Some e) × (after ≡ fill before e)
+  pub fill : result ≡ Retry → (e : Entry) × (entry_for_exit before left ≡ Some e)
+      × (after ≡ fill before e)
 
 -- of a guest in machine memory so, which the answer tells
 pub record IsMadeFor (left : Exit) (result : Handled) (before : Guest) (memory : List ℕ) (after : Guest)

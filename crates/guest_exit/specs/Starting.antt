@@ -14,5 +14,5 @@ pub record IsNewPool (layout : Layout) (pool : Pooled) : Type 0 where
   pub entries : needed ≤ pool.most
   pub room : 1 ≤ room_of pool
   pub few : room_of pool ≤ layout.spaces
-  pub tidy : (memory : List ℕ) → LieIn (pool_frames pool) (length memory) → AreZeros (pool_frames pool) memory
-      → TidyPool pool memory
+  pub tidy : (memory : List ℕ) → LieIn (pool_frames pool) (length memory)
+      → AreZeros (pool_frames pool) memory → TidyPool pool memory

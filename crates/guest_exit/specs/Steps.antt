@@ -1,7 +1,9 @@
 -- The next step of a guest's lone machine, and what is left after it.
-use Rattle.std.specs.Prelude.{ℕ, ◌≡◌, ◌+◌, ◌^◌, ◌<◌, ◌≤◌, true, List, [], ◌∷◌, Some, None}
+use Rattle.std.specs.Prelude.{ℕ, ◌≡◌, ◌+◌, ◌^◌, ◌<◌, ◌≤◌, Bool, false, true, List, [], ◌∷◌, Some, None}
+use Rattle.std.specs.Option.{ForSome}
 use Rattle.arch_defs.specs.declared.cached.Entry.{Entry}
 use Rattle.arch_defs.specs.declared.levels.Level.TheVariants.{HS}
+use Rattle.arch_defs.specs.Clocks.{next_event}
 use Rattle.guest_settings.specs.declared.statuses.Status.TheVariants.{Running}
 use Rattle.machine_defs.specs.declared.events.Event.TheVariants.{Trap}
 use Rattle.machine_defs.specs.Fills.{fill, missing_entry}
@@ -9,14 +11,29 @@ use Rattle.machine_defs.specs.Machine.{Machine, Tried}
 use Rattle.machine_defs.specs.Runs.{event_in, instruction_count, left_after, left_by, plain_count, run, trace_of}
 use Rattle.machine_defs.specs.Tries.{try}
 use Rattle.fill_laws.specs.Budgets.{NeedNoFill}
+use Rattle.hosted_steps.specs.HartSteps.{host_takes}
 use Rattle.guest_exit.specs.declared.guests.Guest.{Guest}
-use Rattle.guest_exit.specs.View.{machine_of}
+use Rattle.guest_exit.specs.View.{KeepsSpaces, machine_of}
 
 -- a guest goes on, and its clock and its count of steps have room for one step more
 pub record CanStep (guest : Guest) : Type 0 where
   pub running : guest.status ≡ Running
   pub clock : guest.clock.time ≤ 2 ^ 62 + guest.steps
   pub steps : guest.steps < 2 ^ 61
+
+-- its clock and its count of steps have room for that many, and no event of the clock comes before the last
+-- of them is made
+pub record HasRoomForSteps (taken : ℕ) (guest : Guest) : Type 0 where
+  pub event : ForSome (next_event guest.clock) (λ moment. guest.clock.time + taken ≤ moment)
+  pub clock : guest.clock.time + taken ≤ 2 ^ 63
+  pub steps : guest.steps + taken ≤ 2 ^ 61
+
+-- it has made that many, each in one step of its clock, and goes on as before, with its spaces
+pub record HasStepped (taken : ℕ) (before after : Guest) : Type 0 where
+  pub made : after.steps ≡ before.steps + taken
+  pub clock : after.clock.time ≡ before.clock.time + taken
+  pub status : after.status ≡ before.status
+  pub keeps : KeepsSpaces before after
 
 -- a machine's next step is made: its try, which lacks no cached translation
 pub record MakesStep (before after : Machine) : Type 0 where
@@ -60,3 +77,9 @@ pub record TakesInterrupt (before after : Guest) : Type 0 where
   pub event : (memory : List ℕ) → event_in (try (machine_of before memory)) ≡ Trap HS true ∷ []
   pub made : after.steps ≡ before.steps + 1
   pub clock : after.clock.time ≡ before.clock.time + 1
+
+-- where the host takes one, and else it leaves the guest
+pub record TakesIfDue (taken : Bool) (before after : Guest) : Type 0 where
+  pub which : taken ≡ host_takes before.virt
+  pub takes : taken ≡ true → TakesInterrupt before after
+  pub stays : taken ≡ false → after ≡ before

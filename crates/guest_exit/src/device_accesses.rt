@@ -4,9 +4,9 @@ ghost use Rattle.std.specs.Prelude.{◌≡◌, ◌≢◌};
 ghost use Rattle.arch_defs.specs.SecondStage.{is_implicit};
 ghost use Rattle.machine_defs.specs.DeviceSteps.{device_step, on_device};
 ghost use Rattle.hosted_steps.specs.ExitCases.{data_wanted, found_next, having_found};
-ghost use Rattle.guest_exit.specs.HartExit.{IsLeftToHost, IsTold, TellsEvent};
-ghost use Rattle.guest_exit.specs.Steps.{CanStep, Makes};
-ghost use Rattle.guest_exit.specs.View.{KeepsSpaces, machine_of};
+ghost use Rattle.guest_exit.specs.HartExit.{IsLeftToHost, MakesTold};
+ghost use Rattle.guest_exit.specs.Steps.{CanStep};
+ghost use Rattle.guest_exit.specs.View.{machine_of};
 
 use crate::found_leaves::next_step;
 use crate::guests::Guest;
@@ -21,17 +21,12 @@ use rv64_hart::Leaves;
 #[inline(never)]
 pub(crate) fn access_device(guest: &mut Guest, memory: &PhysMem, missing: &MissingPlace) -> Handled
     requires left { IsLeftToHost guest.old memory.now }
-    ensures step { Makes guest.old guest.new
+    ensures made { MakesTold result guest.old guest.new
         (λ m. on_device (having_found (found_next (machine_of guest.old memory.now)) m) missing.now
         (data_wanted (machine_of guest.old memory.now))) }
-    ensures event { TellsEvent result guest.old
-        (λ m. on_device (having_found (found_next (machine_of guest.old memory.now)) m) missing.now
-        (data_wanted (machine_of guest.old memory.now))) }
-    ensures told { IsTold result guest.old guest.new }
     ensures goes { result ≢ Handled.Waits }
     ensures went { result ≢ Handled.Retry }
     ensures runs { result ≢ Handled.Stopped }
-    ensures keeps { KeepsSpaces guest.old guest.new }
 {
     let mut found = Leaves::none();
     let wanted = next_step(guest, memory, &mut found);
@@ -55,15 +50,11 @@ fn is_implicit(kind: Access) -> bool
 // An access to data on the page.
 fn serve(guest: &mut Guest, missing: &MissingPlace, wanted: &DataAccess) -> Handled
     requires can { CanStep guest.old }
-    ensures step { Makes guest.old guest.new
+    ensures made { MakesTold result guest.old guest.new
         (λ m. device_step m missing.now wanted.now.width wanted.now.purpose) }
-    ensures event { TellsEvent result guest.old
-        (λ m. device_step m missing.now wanted.now.width wanted.now.purpose) }
-    ensures told { IsTold result guest.old guest.new }
     ensures goes { result ≢ Handled.Waits }
     ensures went { result ≢ Handled.Retry }
     ensures runs { result ≢ Handled.Stopped }
-    ensures keeps { KeepsSpaces guest.old guest.new }
 {
     let clock = guest.clock.now();
     let offset = missing.address % 4096;

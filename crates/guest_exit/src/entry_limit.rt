@@ -3,13 +3,13 @@
 ghost use Rattle.std.specs.Prelude.{◌≡◌, ◌≤◌, ◌&&◌, ℕ, false, true, if◌then◌else◌};
 ghost use Rattle.arch_defs.specs.Inputs.{has_come};
 ghost use Rattle.machine_defs.specs.Machine.{with_pending_lines};
-ghost use Rattle.guest_exit.specs.HartEntry.{KeepsCome, Lasts};
+ghost use Rattle.guest_exit.specs.HartEntry.{IsLongest, KeepsCome};
 ghost use Rattle.hosted_steps.specs.HartSteps.{host_takes};
 ghost use Rattle.world_switch.specs.Laws.{waits_for_hs};
 ghost use Rattle.guest_exit.specs.View.{platform_of};
 
 use crate::guests::Guest;
-use arch_defs::Csrs;
+use arch_defs::{Csrs, Interrupts};
 
 /// The largest limit, of at most that many steps, at which nothing that the hart does not have for the guest
 /// changes before the last step begins: 1 where an interrupt of VS waits that the host has to take, and else
@@ -18,10 +18,7 @@ pub fn limit(guest: &Guest, most: u64) -> u64
     requires current { with_pending_lines (platform_of guest.now) ≡ platform_of guest.now }
     requires own { host_takes guest.now.virt ≡ false }
     requires some { 1 ≤ most }
-    ensures lasts { Lasts (platform_of guest.now) result }
-    ensures some { 1 ≤ result }
-    ensures most { result ≤ most }
-    ensures largest { (n : ℕ) → n ≤ most → Lasts (platform_of guest.now) n → n ≤ result }
+    ensures longest { IsLongest (platform_of guest.now) most result }
 {
     if waits_for_hs(&guest.virt.csrs) {
         return 1;
@@ -48,12 +45,10 @@ fn steps_before(moment: Option<u64>, time: u64, most: u64) -> u64
 fn waits_for_hs(csrs: &Csrs) -> bool
     ensures { result ≡ waits_for_hs csrs.now }
 {
-    let pending = csrs.hvip;
-    if pending.external || pending.software || pending.timer {
-        is_any_left(csrs)
-    } else {
-        false
+    if csrs.hvip == Interrupts::clear() {
+        return false;
     }
+    is_any_left(csrs)
 }
 
 // The same, where one is pending.

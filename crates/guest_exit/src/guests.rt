@@ -1,12 +1,11 @@
 // A guest on the hart.
 
-ghost use Rattle.std.specs.Prelude.{◌≡◌, ◌+◌, ◌^◌, ◌<◌, ◌≤◌};
-ghost use Rattle.std.specs.Option.{ForSome};
-ghost use Rattle.arch_defs.specs.Clocks.{next_event};
+ghost use Rattle.std.specs.Prelude.{◌≡◌, ◌+◌, ◌^◌, ◌<◌};
 ghost use Rattle.arch_defs.specs.Traps.{is_virtual};
 ghost use Rattle.arch_defs.specs.WalkedEntries.{folds};
 ghost use Rattle.machine_defs.specs.Machine.{made_by, ticked, with_pending_lines};
 ghost use Rattle.guest_exit.specs.HartEntry.{moved, taken_back};
+ghost use Rattle.guest_exit.specs.Steps.{HasRoomForSteps, HasStepped};
 ghost use Rattle.guest_exit.specs.View.{KeepsSpaces, platform_of};
 
 use arch_defs::{HartState, Part, Virtual};
@@ -50,10 +49,7 @@ impl Guest {
         requires clock { self.old.clock.time < 2 ^ 63 }
         requires steps { self.old.steps < 2 ^ 61 }
         ensures platform { platform_of self.new ≡ ticked (platform_of self.old) }
-        ensures made { self.new.steps ≡ self.old.steps + 1 }
-        ensures clock { self.new.clock.time ≡ self.old.clock.time + 1 }
-        ensures status { self.new.status ≡ self.old.status }
-        ensures keeps { KeepsSpaces self.old self.new }
+        ensures goes { HasStepped 1 self.old self.new }
     {
         self.clock.step();
         self.count();
@@ -72,23 +68,18 @@ impl Guest {
         self.set_pending_lines();
     }
 
-    /// The hart has made that many steps for the guest, the last of which was a trap into VS or was not. After
-    /// none of them the guest has what the hart has for it.
+    /// The hart has made `taken` steps for the guest, and the last was a trap into VS if `trapped` is set.
+    /// After none of them the guest has what the hart has for it.
+    #[inline(always)]
     pub(crate) fn take_steps(&mut self, hart: &HartState, trapped: bool, taken: u64)
-        requires event { ForSome (next_event self.old.clock)
-            (λ moment. self.old.clock.time + taken ≤ moment) }
-        requires clock { self.old.clock.time + taken ≤ 2 ^ 63 }
-        requires steps { self.old.steps + taken ≤ 2 ^ 61 }
+        requires room { HasRoomForSteps taken self.old }
         requires current { with_pending_lines (platform_of self.old) ≡ platform_of self.old }
         requires none { taken ≡ 0 → platform_of self.old ≡ moved (platform_of self.old)
             (taken_back self.old.part hart.now.virt trapped self.old.virt) taken }
         ensures platform { platform_of self.new ≡ moved (platform_of self.old)
             (taken_back self.old.part hart.now.virt trapped self.old.virt) taken }
         ensures current { with_pending_lines (platform_of self.new) ≡ platform_of self.new }
-        ensures made { self.new.steps ≡ self.old.steps + taken }
-        ensures clock { self.new.clock.time ≡ self.old.clock.time + taken }
-        ensures status { self.new.status ≡ self.old.status }
-        ensures keeps { KeepsSpaces self.old self.new }
+        ensures goes { HasStepped taken self.old self.new }
     {
         if taken == 0 {
             return;
@@ -102,6 +93,7 @@ impl Guest {
 
 // Gives the guest that has this part what the hart has for it, after a run whose last step was a trap into VS
 // or was not. Such a trap from V = 0 is one into HS, which sets more than the hart has for the guest.
+#[inline(always)]
 fn take_back(hart: &HartState, part: &Part, trapped: bool, virt: &mut Virtual)
     ensures { virt.new ≡ taken_back part.now hart.now.virt trapped virt.old }
 {

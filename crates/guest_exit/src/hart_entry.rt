@@ -3,13 +3,11 @@
 ghost use Rattle.std.specs.Prelude.{◌≡◌, ◌+◌, ◌%◌, ◌^◌, ◌<◌, ℕ, is_some};
 ghost use Rattle.arch_defs.specs.Interrupts.{due};
 ghost use Rattle.machine_defs.specs.declared.events.Event.TheVariants.{Plain, System};
-ghost use Rattle.machine_defs.specs.Runs.{events, trace_of};
 ghost use Rattle.rv64_hart.specs.Steps.{is_vs_trap, progress};
 ghost use Rattle.instruction_laws.specs.HostPlaces.{in_ram};
 ghost use Rattle.instruction_laws.specs.Renaming.{ReservesWithin};
-ghost use Rattle.guest_exit.specs.HartEntry.{CanEnter, GoesOn, HartMakes, HasRoomForEntry, IsAccounted, IsEntered, KeepsTables, Stops, is_watched, steps_entered};
+ghost use Rattle.guest_exit.specs.HartEntry.{CanEnter, HartMakes, HasEntered, HasRoomForEntry, IsEntered, Stops, is_watched, steps_entered};
 ghost use Rattle.hosted_steps.specs.HartSteps.{root_frame_for};
-ghost use Rattle.guest_exit.specs.Steps.{MakesSteps};
 ghost use Rattle.guest_exit.specs.View.{loaded_for, machine_of};
 ghost use Rattle.arch_defs.specs.Traps.{is_virtual};
 ghost use Rattle.world_switch.specs.Hosting.{hosted_level};
@@ -35,16 +33,12 @@ pub fn enter(
     requires can { CanEnter guest.old memory.old limit }
     requires room { HasRoomForEntry limit tally.old }
 
-    ensures run { MakesSteps result.taken (machine_of guest.old memory.old)
-        (machine_of guest.new memory.new) }
+    ensures entered { HasEntered result.taken guest.old memory.old guest.new memory.new
+        tally.old tally.new }
     ensures why { Stops guest.old.part guest.old.pool (machine_of guest.old memory.old)
         (machine_of guest.new memory.new) memory.new limit result }
     ensures hart { HartMakes result.taken guest.old guest.new memory.old tally.old.trace
         (progress hart.new.state memory.new tally.new.trace (is_vs_trap result.why)) }
-    ensures account { IsAccounted result.taken
-        (trace_of (events (machine_of guest.old memory.old) result.taken)) tally.old tally.new }
-    ensures goes { GoesOn result.taken guest.old guest.new }
-    ensures keeps { KeepsTables guest.old memory.old guest.new memory.new }
 {
     let root = root_frame_of(guest);
     let watch = is_watched(&guest.virt);
@@ -74,14 +68,10 @@ pub fn enter_once(
     requires can { CanEnter guest.old memory.old 1 }
     requires room { HasRoomForEntry 1 tally.old }
 
-    ensures run { MakesSteps (steps_entered result) (machine_of guest.old memory.old)
-        (machine_of guest.new memory.new) }
+    ensures entered { HasEntered (steps_entered result) guest.old memory.old guest.new memory.new
+        tally.old tally.new }
     ensures event { IsEntered guest.old.part guest.old.pool (machine_of guest.old memory.old)
         (machine_of guest.new memory.new) memory.new result }
-    ensures account { IsAccounted (steps_entered result)
-        (trace_of (events (machine_of guest.old memory.old) (steps_entered result))) tally.old tally.new }
-    ensures goes { GoesOn (steps_entered result) guest.old guest.new }
-    ensures keeps { KeepsTables guest.old memory.old guest.new memory.new }
 {
     let pc = guest.virt.regs.pc;
     let level = hosted_level(&guest.virt);

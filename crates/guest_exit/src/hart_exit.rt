@@ -1,15 +1,15 @@
 // What the host makes of a step that the hart has left to it.
 
-ghost use Rattle.std.specs.Prelude.{◌≡◌, ◌≢◌, ◌↔◌, ◌-◌, ◌^◌, ◌<◌, [], ◌∷◌};
+ghost use Rattle.std.specs.Prelude.{◌≡◌, ◌≢◌, ◌-◌, ◌^◌, ◌<◌, [], ◌∷◌};
 ghost use Rattle.arch_defs.specs.Traps.{target};
 ghost use Rattle.arch_defs.specs.Walk.{guest_bits};
 ghost use Rattle.instruction_laws.specs.MissedPlaces.{told_place};
 ghost use Rattle.machine_defs.specs.declared.events.Event.TheVariants.{System};
-ghost use Rattle.machine_defs.specs.Machine.{WaitsForGood, called, stepped_to, trapped};
+ghost use Rattle.machine_defs.specs.Machine.{called, stepped_to, trapped};
 ghost use Rattle.machine_defs.specs.Tries.{try};
 ghost use Rattle.hosted_steps.specs.ExitCases.{Call, Missing, Own, decided_at, exit_of, instruction_exit};
-ghost use Rattle.guest_exit.specs.HartExit.{HasExited, IsHandled, IsLeftToHost, IsMadeFor, IsStopCall, IsTold, IsToldEvent, KeepsPart, events_told};
-ghost use Rattle.guest_exit.specs.Steps.{CanStep, IsMiss, IsQuiet, Makes};
+ghost use Rattle.guest_exit.specs.HartExit.{HasExited, IsHandled, IsLeftToHost, IsMadeFor, IsTold, KeepsPart, TellsNext, TellsTry, events_told};
+ghost use Rattle.guest_exit.specs.Steps.{CanStep, Makes};
 ghost use Rattle.guest_exit.specs.View.{KeepsSpaces, machine_of};
 
 use crate::exit_cases::{Left, decided_at, far_fault, left_step, told_place};
@@ -45,12 +45,8 @@ pub enum Handled {
 pub fn handle(guest: &mut Guest, memory: &mut PhysMem, trap: Trap) -> Handled
     requires exited { HasExited guest.old memory.old trap }
     ensures does { IsHandled result (machine_of guest.old memory.old) (machine_of guest.new memory.new) }
-    ensures retry { (result ≡ Handled.Retry) ↔ IsMiss (machine_of guest.old memory.old) }
-    ensures waits { (result ≡ Handled.Waits) ↔ (try (machine_of guest.old memory.old) ≡ WaitsForGood) }
-    ensures stops { (result ≡ Handled.Stopped)
-        ↔ IsStopCall (exit_of guest.old.virt trap) guest.old.virt }
-    ensures quiet { IsQuiet (machine_of guest.old memory.old) }
-    ensures event { IsToldEvent result (try (machine_of guest.old memory.old)) }
+    ensures answers { TellsNext result (exit_of guest.old.virt trap) (machine_of guest.old memory.old) }
+    ensures tried { TellsTry result (try (machine_of guest.old memory.old)) }
     ensures told { IsTold result guest.old guest.new }
     ensures keeps { KeepsPart guest.old memory.old guest.new memory.new }
 {

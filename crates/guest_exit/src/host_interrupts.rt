@@ -1,11 +1,11 @@
 // Interrupts that the host takes.
 
-ghost use Rattle.std.specs.Prelude.{◌≡◌, List, Some, ℕ, false, true};
+ghost use Rattle.std.specs.Prelude.{◌≡◌, List, Some, ℕ};
 ghost use Rattle.arch_defs.specs.Interrupts.{vs_bit};
 ghost use Rattle.arch_defs.specs.Traps.{is_virtual};
 ghost use Rattle.guest_settings.specs.declared.statuses.Status.TheVariants.{Running};
-ghost use Rattle.hosted_steps.specs.HartSteps.{host_takes, is_hosts};
-ghost use Rattle.guest_exit.specs.Steps.{CanStep, TakesInterrupt};
+ghost use Rattle.hosted_steps.specs.HartSteps.{is_hosts};
+ghost use Rattle.guest_exit.specs.Steps.{CanStep, TakesIfDue};
 ghost use Rattle.guest_exit.specs.View.{IsPlaced, KeepsSpaces};
 
 use crate::guests::Guest;
@@ -18,9 +18,7 @@ use trap_delegation::pending;
 /// is a step.
 pub fn interrupt(guest: &mut Guest) -> bool
     requires can { CanStep guest.old }
-    ensures which { result ≡ host_takes guest.old.virt }
-    ensures takes { result ≡ true → TakesInterrupt guest.old guest.new }
-    ensures stays { result ≡ false → guest.new ≡ guest.old }
+    ensures due { TakesIfDue result guest.old guest.new }
     ensures placed { (memory : List ℕ) → IsPlaced guest.old memory → IsPlaced guest.new memory }
     ensures status { guest.new.status ≡ Running }
     ensures keeps { KeepsSpaces guest.old guest.new }

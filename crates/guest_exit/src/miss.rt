@@ -11,9 +11,8 @@ ghost use Rattle.machine_defs.specs.Machine.{trapped};
 ghost use Rattle.machine_defs.specs.Tries.{device_of};
 ghost use Rattle.shadow_pool.specs.Slots.{spaces_of};
 ghost use Rattle.hosted_steps.specs.ExitCases.{Missing, entry_for, found_next, having_found};
-ghost use Rattle.guest_exit.specs.HartExit.{IsLeftToHost, IsMadeOf, IsTold, IsToldEvent, KeepsOutside, TellsEvent, try_left};
-ghost use Rattle.guest_exit.specs.Steps.{IsNotPlain, Makes};
-ghost use Rattle.guest_exit.specs.View.{KeepsSpaces, machine_of};
+ghost use Rattle.guest_exit.specs.HartExit.{IsLeftToHost, IsMadeFor, MakesTold};
+ghost use Rattle.guest_exit.specs.View.{machine_of};
 
 use crate::device_accesses::access_device;
 use crate::found_leaves::find_next;
@@ -30,16 +29,10 @@ use two_stage_walk::{MissingPlace, entry_by_walk, is_on_device, missing_place_tr
 /// is taken.
 pub fn miss(guest: &mut Guest, memory: &mut PhysMem, access: &MissingPlace) -> Handled
     requires left { IsLeftToHost guest.old memory.old }
-    ensures makes { IsMadeOf (Missing access.now) result
-        (machine_of guest.old memory.old) (machine_of guest.new memory.new) }
-    ensures quiet { IsNotPlain
-        (try_left (machine_of guest.old memory.old) (Missing access.now)) }
-    ensures event { IsToldEvent result
-        (try_left (machine_of guest.old memory.old) (Missing access.now)) }
+    ensures made { IsMadeFor (Missing access.now) result
+        guest.old memory.old guest.new memory.new }
     ensures goes { result ≢ Handled.Waits }
     ensures runs { result ≢ Handled.Stopped }
-    ensures within { KeepsOutside guest.old memory.old guest.new memory.new }
-    ensures told { IsTold result guest.old guest.new }
 {
     if has_on_device(guest, access) {
         return access_device(guest, memory, access);
@@ -58,19 +51,13 @@ pub fn miss(guest: &mut Guest, memory: &mut PhysMem, access: &MissingPlace) -> H
 #[inline(never)]
 fn raise_fault(guest: &mut Guest, memory: &mut PhysMem, access: &MissingPlace) -> Handled
     requires left { IsLeftToHost guest.old memory.old }
-    ensures step { Makes guest.old guest.new
+    ensures made { MakesTold result guest.old guest.new
         (λ m. trapped (having_found (found_next (machine_of guest.old memory.old)) m)
         (missing_place_trap guest.old.virt.csrs (ram_memory (ram_of guest.old.part.blocks memory.old))
         access.now)) }
-    ensures event { TellsEvent result guest.old
-        (λ m. trapped (having_found (found_next (machine_of guest.old memory.old)) m)
-        (missing_place_trap guest.old.virt.csrs (ram_memory (ram_of guest.old.part.blocks memory.old))
-        access.now)) }
-    ensures told { IsTold result guest.old guest.new }
     ensures goes { result ≢ Handled.Waits }
     ensures went { result ≢ Handled.Retry }
     ensures runs { result ≢ Handled.Stopped }
-    ensures keeps { KeepsSpaces guest.old guest.new }
     ensures stays { memory.new ≡ memory.old }
 {
     let mut found = Leaves::none();

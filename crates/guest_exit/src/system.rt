@@ -8,16 +8,14 @@ ghost use Rattle.arch_defs.specs.Ram.{ram_of};
 ghost use Rattle.arch_defs.specs.WalkedEntries.{folds};
 ghost use Rattle.machine_defs.specs.declared.events.Event.TheVariants.{System};
 ghost use Rattle.machine_defs.specs.Machine.{stepped_to};
-ghost use Rattle.machine_defs.specs.Runs.{event_in, left_by};
 ghost use Rattle.machine_defs.specs.Tries.{first_fenced};
-ghost use Rattle.run_laws.specs.StorableStates.{IsStorable};
 ghost use Rattle.rv64_asm.specs.Fitting.{fits};
 ghost use Rattle.hcsr_emulation.specs.Ends.{IfAccessRaised, IsCsrOrSret};
 ghost use Rattle.hlv_hsv.specs.Ends.{IsAccessed, IsHlvOp, hlv_state};
 ghost use Rattle.hosted_steps.specs.ExitCases.{Instruction};
-ghost use Rattle.guest_exit.specs.HartExit.{HoldsTables, IsDecidedOp, IsFenced, IsFinished, IsLeftToHost, IsTold, IsWaitOrFence, KeepsOutside, events_told, try_left};
-ghost use Rattle.guest_exit.specs.Steps.{CanStep, IsNotPlain, Makes};
-ghost use Rattle.guest_exit.specs.View.{KeepsSpaces, machine_of};
+ghost use Rattle.guest_exit.specs.HartExit.{CanFinish, HoldsTables, IsDecidedOp, IsFenced, IsFinished, IsLeftToHost, IsMadeFor, IsTold, IsWaitOrFence, KeepsOutside};
+ghost use Rattle.guest_exit.specs.Steps.{CanStep, Makes};
+ghost use Rattle.guest_exit.specs.View.{KeepsSpaces};
 
 use crate::found_leaves::find_next;
 use crate::guests::{Guest, folds};
@@ -38,15 +36,10 @@ use world_switch::tag_of;
 pub fn emulate(guest: &mut Guest, memory: &mut PhysMem, op: &Op) -> Handled
     requires left { IsLeftToHost guest.old memory.old }
     requires op { IsDecidedOp op.now }
-    ensures step { machine_of guest.new memory.new ≡ left_by (machine_of guest.old memory.old)
-        (try_left (machine_of guest.old memory.old) (Instruction op.now)) }
-    ensures quiet { IsNotPlain (try_left (machine_of guest.old memory.old) (Instruction op.now)) }
-    ensures event { event_in (try_left (machine_of guest.old memory.old) (Instruction op.now))
-        ≡ events_told result }
+    ensures made { IsMadeFor (Instruction op.now) result
+        guest.old memory.old guest.new memory.new }
     ensures went { result ≢ Handled.Retry }
     ensures runs { result ≢ Handled.Stopped }
-    ensures within { KeepsOutside guest.old memory.old guest.new memory.new }
-    ensures told { IsTold result guest.old guest.new }
 {
     match *op {
         Op::Csr { .. } | Op::Sret => access_registers(guest, memory, op),
@@ -65,15 +58,10 @@ fn access_registers(guest: &mut Guest, memory: &mut PhysMem, op: &Op) -> Handled
     requires left { IsLeftToHost guest.old memory.old }
     requires kind { IsCsrOrSret op.now }
     requires fits { fits op.now ≡ true }
-    ensures step { machine_of guest.new memory.new ≡ left_by (machine_of guest.old memory.old)
-        (try_left (machine_of guest.old memory.old) (Instruction op.now)) }
-    ensures quiet { IsNotPlain (try_left (machine_of guest.old memory.old) (Instruction op.now)) }
-    ensures event { event_in (try_left (machine_of guest.old memory.old) (Instruction op.now))
-        ≡ events_told result }
+    ensures made { IsMadeFor (Instruction op.now) result
+        guest.old memory.old guest.new memory.new }
     ensures went { result ≢ Handled.Retry }
     ensures runs { result ≢ Handled.Stopped }
-    ensures within { KeepsOutside guest.old memory.old guest.new memory.new }
-    ensures told { IsTold result guest.old guest.new }
 {
     let nested = guest.virt.mode.is_virtual();
     let mut found = Leaves::none();
@@ -94,15 +82,10 @@ fn access_registers(guest: &mut Guest, memory: &mut PhysMem, op: &Op) -> Handled
 fn wait_or_fence(guest: &mut Guest, memory: &mut PhysMem, op: &Op) -> Handled
     requires left { IsLeftToHost guest.old memory.old }
     requires kind { IsWaitOrFence op.now }
-    ensures step { machine_of guest.new memory.new ≡ left_by (machine_of guest.old memory.old)
-        (try_left (machine_of guest.old memory.old) (Instruction op.now)) }
-    ensures quiet { IsNotPlain (try_left (machine_of guest.old memory.old) (Instruction op.now)) }
-    ensures event { event_in (try_left (machine_of guest.old memory.old) (Instruction op.now))
-        ≡ events_told result }
+    ensures made { IsMadeFor (Instruction op.now) result
+        guest.old memory.old guest.new memory.new }
     ensures went { result ≢ Handled.Retry }
     ensures runs { result ≢ Handled.Stopped }
-    ensures within { KeepsOutside guest.old memory.old guest.new memory.new }
-    ensures told { IsTold result guest.old guest.new }
 {
     let nested = guest.virt.mode.is_virtual();
     let mut found = Leaves::none();
@@ -133,9 +116,7 @@ fn wait_or_fence(guest: &mut Guest, memory: &mut PhysMem, op: &Op) -> Handled
 
 // An instruction has left the guest its state, which had this V before.
 fn finish(guest: &mut Guest, memory: &mut PhysMem, nested: bool) -> Handled
-    requires can { CanStep guest.old }
-    requires holds { HoldsTables guest.old memory.old }
-    requires storable { IsStorable guest.old.virt }
+    requires can { CanFinish guest.old memory.old }
     ensures step { IsFinished nested guest.old memory.old guest.new memory.new }
     ensures went { result ≡ Handled.Stepped }
     ensures within { KeepsOutside guest.old memory.old guest.new memory.new }
@@ -157,9 +138,7 @@ fn enters(nested: bool, after: &Virtual) -> bool
 
 // An SRET has left the guest its state, which folds: the space of its hgatp comes to the front.
 fn enter_space(guest: &mut Guest, memory: &mut PhysMem) -> Handled
-    requires can { CanStep guest.old }
-    requires holds { HoldsTables guest.old memory.old }
-    requires storable { IsStorable guest.old.virt }
+    requires can { CanFinish guest.old memory.old }
     requires folds { folds guest.old.virt ≡ true }
     ensures step { IsFinished false guest.old memory.old guest.new memory.new }
     ensures went { result ≡ Handled.Stepped }
@@ -207,15 +186,10 @@ fn first_fence(guest: &mut Guest, tag: Tag, named: &Fence) -> Handled
 fn access_ram(guest: &mut Guest, memory: &mut PhysMem, op: &Op) -> Handled
     requires left { IsLeftToHost guest.old memory.old }
     requires op { IsHlvOp op.now }
-    ensures step { machine_of guest.new memory.new ≡ left_by (machine_of guest.old memory.old)
-        (try_left (machine_of guest.old memory.old) (Instruction op.now)) }
-    ensures quiet { IsNotPlain (try_left (machine_of guest.old memory.old) (Instruction op.now)) }
-    ensures event { event_in (try_left (machine_of guest.old memory.old) (Instruction op.now))
-        ≡ events_told result }
+    ensures made { IsMadeFor (Instruction op.now) result
+        guest.old memory.old guest.new memory.new }
     ensures went { result ≢ Handled.Retry }
     ensures runs { result ≢ Handled.Stopped }
-    ensures within { KeepsOutside guest.old memory.old guest.new memory.new }
-    ensures told { IsTold result guest.old guest.new }
 {
     let mut found = Leaves::none();
     find_next(guest, memory, &mut found);

@@ -3,12 +3,10 @@
 ghost use Rattle.std.specs.Prelude.{◌≡◌, ◌≢◌, ◌&&◌, ◌||◌, false};
 ghost use Rattle.arch_defs.specs.Bits.{bit};
 ghost use Rattle.arch_defs.specs.CsrBits.{sip_bits, supervisor_interrupts};
-ghost use Rattle.machine_defs.specs.Machine.{has_enabled_interrupt, waited, with_pending_lines};
-ghost use Rattle.rv64_hart.specs.Leaves.{LeavesFit, leaves_list};
+ghost use Rattle.machine_defs.specs.Machine.{has_enabled_interrupt, waited};
+ghost use Rattle.rv64_hart.specs.Leaves.{leaves_list};
 ghost use Rattle.hosted_steps.specs.ExitCases.{having_found};
-ghost use Rattle.guest_exit.specs.HartExit.{IsTold, TellsEvent, with_pc};
-ghost use Rattle.guest_exit.specs.Steps.{CanStep, Makes};
-ghost use Rattle.guest_exit.specs.View.{KeepsSpaces, platform_of};
+ghost use Rattle.guest_exit.specs.HartExit.{CanWait, MakesTold, with_pc};
 
 use crate::guests::Guest;
 use crate::hart_exit::Handled;
@@ -21,17 +19,11 @@ use virtual_timer::{WaitEnd, wake_moment_is_least};
 /// goes on at once, and else it waits for the wake moment, or for good: then pc is what it was, and the
 /// first-stage translations that it has found are not cached.
 pub fn wait(guest: &mut Guest, pc: u64, found: &Leaves) -> Handled
-    requires can { CanStep guest.old }
-    requires fits { LeavesFit found.now }
-    requires current { with_pending_lines (platform_of guest.old) ≡ platform_of guest.old }
-    ensures step { Makes (with_pc guest.old pc) guest.new
+    requires can { CanWait guest.old found.now }
+    ensures made { MakesTold result (with_pc guest.old pc) guest.new
         (λ m. waited (having_found (leaves_list found.now) m) guest.old.virt) }
-    ensures event { TellsEvent result (with_pc guest.old pc)
-        (λ m. waited (having_found (leaves_list found.now) m) guest.old.virt) }
-    ensures told { IsTold result guest.old guest.new }
     ensures went { result ≢ Handled.Retry }
     ensures runs { result ≢ Handled.Stopped }
-    ensures keeps { KeepsSpaces guest.old guest.new }
 {
     if has_enabled_interrupt(&guest.virt.csrs) {
         found.fill(&mut guest.virt.first);
@@ -43,18 +35,12 @@ pub fn wait(guest: &mut Guest, pc: u64, found: &Leaves) -> Handled
 
 // A WFI at which no enabled interrupt is pending.
 fn wait_for_wake(guest: &mut Guest, pc: u64, found: &Leaves) -> Handled
-    requires can { CanStep guest.old }
-    requires fits { LeavesFit found.now }
-    requires current { with_pending_lines (platform_of guest.old) ≡ platform_of guest.old }
+    requires can { CanWait guest.old found.now }
     requires none { has_enabled_interrupt guest.old.virt.csrs ≡ false }
-    ensures step { Makes (with_pc guest.old pc) guest.new
+    ensures made { MakesTold result (with_pc guest.old pc) guest.new
         (λ m. waited (having_found (leaves_list found.now) m) guest.old.virt) }
-    ensures event { TellsEvent result (with_pc guest.old pc)
-        (λ m. waited (having_found (leaves_list found.now) m) guest.old.virt) }
-    ensures told { IsTold result guest.old guest.new }
     ensures went { result ≢ Handled.Retry }
     ensures runs { result ≢ Handled.Stopped }
-    ensures keeps { KeepsSpaces guest.old guest.new }
 {
     wake_moment_is_least();
     let sie = sie_number(guest.virt.csrs.sie);

@@ -10,7 +10,7 @@ use Rattle.fill_laws.proofs.Running.{events_compose, events_idle, events_none}
 use Rattle.guest_turns.specs.Hosted.{machine_at, no_machine}
 use Rattle.guest_turns.specs.TurnLists.{TurnsCountAlike, events_from, own_steps, turn_events, updated, with_turn}
 
--- the machine of a guest that there is not makes no step
+-- the machine of a guest that does not exist makes no step
 none_of : (k : ℕ) → events no_machine k ≡ []
 unfolding no_machine
 none_of k = events_idle no_machine k (λ e. cc)

@@ -1,16 +1,12 @@
 -- Steps at which no bit of sip or hip is set: the hart makes them all in one entry.
 use Rattle.std.specs.Prelude.{nat_le}
-use Rattle.std.specs.Option.{option_or}
-use Rattle.std.proofs.Common.{cond, ◌≡◌, ℕ, zero, suc, ◌+◌, ◌<◌, ◌≤◌, Bool, true, false, Option, None, refl, ap, sym, subst, arith, ◌∙◌}
+use Rattle.std.proofs.Common.{◌≡◌, ℕ, zero, suc, ◌+◌, ◌<◌, ◌≤◌, Bool, false, Option, refl, ap, sym, subst, arith, ◌∙◌}
 use Rattle.guest_settings.specs.declared.statuses.Status.{Status}
 use Rattle.guest_settings.specs.declared.statuses.Status.TheVariants as status
 use Rattle.arch_defs.specs.declared.cached.Fence.{Fence}
 use Rattle.arch_defs.specs.declared.levels.Level.TheVariants as level
-use Rattle.arch_defs.specs.declared.modes.Mode.{Mode}
-use Rattle.arch_defs.specs.declared.registers.Csrs.{Csrs}
 use Rattle.arch_defs.specs.declared.registers.Interrupts.{Interrupts}
 use Rattle.arch_defs.specs.Inputs.{has_input}
-use Rattle.arch_defs.specs.Interrupts.{due, due_for_hs, due_for_vs, takes}
 use Rattle.arch_defs.specs.Registers.{clear_interrupts}
 use Rattle.arch_defs.specs.Traps.{is_virtual}
 use Rattle.machine_defs.specs.Fills.{most_fills, ready}
@@ -18,6 +14,7 @@ use Rattle.machine_defs.specs.Machine.{Machine, Tried, with_pending_lines}
 use Rattle.machine_defs.specs.Runs.{event_in, left_by, plain_count, run, step, stepped}
 use Rattle.machine_defs.specs.Tries.{try}
 use Rattle.instruction_laws.proofs.TryEnds.{Calls, Fences, Halts, Makes, Passes, Serves, Takes}
+use Rattle.trap_delegation.proofs.Due.{nothing_pending}
 use Rattle.guest_exit.specs.HartEntry.{Lasts}
 use Rattle.hosted_steps.specs.HartSteps.{is_hosts}
 use Rattle.guest_exit.proofs.Entries.{run_further}
@@ -95,22 +92,6 @@ none_comes m k n current clear within =
       input_ahead = rw (there.inputs, there.time) at now.input_ahead;
     }
 
--- no interrupt is due
-none_due : (csrs : Csrs) (mode : Mode) → csrs.sip ≡ clear_interrupts → csrs.hvip ≡ clear_interrupts → due csrs mode ≡ None
-unfolding due due_for_hs due_for_vs
-none_due csrs mode sip hip =
-    subst (λ bits. due (record csrs { sip = bits; hvip = csrs.hvip }) mode ≡ None) (sym sip)
-    (subst (λ bits. due (record csrs { sip = clear_interrupts; hvip = bits }) mode ≡ None) (sym hip) (by (takes csrs mode level.HS) (takes csrs mode level.VS)))
-  where
-    none : Option ℕ
-    none = None
-
-    by : (for_hs for_vs : Bool) → option_or (cond for_hs none none) (cond for_vs none none) ≡ none
-    by true true = refl
-    by true false = refl
-    by false true = refl
-    by false false = refl
-
 -- so an entry may last for all of them
 clear_lasts : (m : Machine) (k : ℕ) → with_pending_lines m.platform ≡ m.platform → AreClear m k → 0 < k → Lasts m.platform k
 unfolding run
@@ -120,7 +101,7 @@ clear_lasts m k current clear some =
     let first = none_came m current now.sip in
     record {
       current = current;
-      own = ap (λ code. is_hosts code (is_virtual virt.mode) virt.csrs.hideleg) (none_due virt.csrs virt.mode now.sip now.hip);
+      own = ap (λ code. is_hosts code (is_virtual virt.mode) virt.csrs.hideleg) (nothing_pending virt.csrs virt.mode now.sip now.hip);
       interrupts = λ more. none_pending_waits virt.csrs now.hip;
       timer = λ n within. (none_comes m k n current clear within).timer_ahead ∙ sym first.timer_ahead;
       inputs = λ n within. (none_comes m k n current clear within).input_ahead ∙ sym first.input_ahead;

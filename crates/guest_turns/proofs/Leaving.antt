@@ -8,13 +8,13 @@ use Rattle.arch_defs.specs.Memory.{block_size, pasted, zeros}
 use Rattle.arch_defs.specs.Ram.{SlicesLieIn, ram_of, slices}
 use Rattle.arch_defs.proofs.FrameSets.{apart_sym, apart_within, block_found, joined_within, kept, left_within, only_both, only_more, only_none, right_within, within_apart}
 use Rattle.block_moves.specs.Moves.{without_blocks}
-use Rattle.block_moves.proofs.Blocks.{blocks_apart, of_one, one_within}
+use Rattle.block_moves.proofs.Blocks.{blocks_apart, first_frame, of_one, one_within}
 use Rattle.block_moves.proofs.Copies.{cleared_only, cleared_zeros}
 use Rattle.host_tables.specs.Walks.{IsHeld}
 use Rattle.shadow_space.specs.Shadows.{AreZeros}
 use Rattle.guest_exit.specs.declared.guests.Guest.{Guest}
 use Rattle.guest_exit.specs.View.{machine_of}
-use Rattle.guest_exit.proofs.Pools.{blocks_held}
+use Rattle.hosted_steps.proofs.Followed.{blocks_held}
 use Rattle.guest_turns.specs.Hosted.{Hosted, count_set, is_set, part_at, with_free}
 use Rattle.guest_turns.specs.Hosting.{AreHosted, IsFree, IsHosted, parts_of}
 use Rattle.guest_turns.specs.Moves.{HasRetired, emptied}
@@ -85,10 +85,6 @@ rest_within part = joined_within (in_blocks []) (in_tables part) (named_by part)
 no_ram : (memory : List ℕ) → ram_of [] memory ≡ []
 unfolding slices
 no_ram memory = refl
-
--- the first frame of a block
-pub first_frame : (block : ℕ) → block ≡ block * 512 / 512
-first_frame block = omega arith
 
 module _ (guests : List Guest) (retired free : List Bool) (memory : List ℕ) (all : AreHosted guests retired free memory) (g : ℕ) (g_in : g < length guests) (active : is_set retired g ≡ false)
     (flags : length retired ≡ 16) (blocks : length free ≡ 256) (old new : Guest) (changed : List ℕ) (free' retired' : List Bool) (is : old ≡ get_or guests g old)

@@ -13,7 +13,8 @@ use Rattle.shadow_pool.specs.Slots.{pool_frames, room_of, table_frames_for}
 use Rattle.shadow_pool.proofs.Front.{pool_lasts}
 use Rattle.guest_exit.specs.declared.guests.Guest.{Guest}
 use Rattle.guest_exit.specs.View.{IsPlaced, KeepsLayout, changed_by, machine_of}
-use Rattle.guest_exit.proofs.Pools.{blocks_held, changes_within, pool_in_part}
+use Rattle.hosted_steps.proofs.Followed.{blocks_held}
+use Rattle.guest_exit.proofs.Pools.{changes_within, pool_in_part}
 use Rattle.guest_turns.specs.Hosting.{IsHosted}
 
 -- what is seen of a part whose frames are the same is the same

@@ -12,7 +12,7 @@ use Rattle.arch_defs.proofs.FrameSets.{apart_sym, apart_within, kept, left_withi
 use Rattle.arch_defs.proofs.Naming.{apart_joined}
 use Rattle.arch_defs.proofs.RamBlocks.{blocks_lie_in}
 use Rattle.block_moves.specs.Moves.{with_block}
-use Rattle.block_moves.proofs.Blocks.{apart_from_moved, blocks_apart, of_one, one_within, with_within}
+use Rattle.block_moves.proofs.Blocks.{apart_from_moved, blocks_apart, first_frame, of_one, one_within, with_within}
 use Rattle.instruction_laws.specs.HostPlaces.{in_ram}
 use Rattle.fill_laws.specs.Keeping.{IsOrderly}
 use Rattle.instruction_laws.specs.Renaming.{ReservesWithin}
@@ -29,7 +29,7 @@ use Rattle.guest_turns.specs.Hosting.{AreHosted, IsFree, IsHosted, parts_of}
 use Rattle.guest_turns.specs.Moves.{HasMoved}
 use Rattle.guest_turns.proofs.Among.{changed_hosted, free_from_part, machines_changed, machines_of, now_free, other_machine, parts_apart, parts_changed, seen_of, seen_part, still_free}
 use Rattle.guest_turns.proofs.Flags.{one_for_another}
-use Rattle.guest_turns.proofs.Leaving.{block_small, first_frame, own_blocks_small}
+use Rattle.guest_turns.proofs.Leaving.{block_small, own_blocks_small}
 use Rattle.guest_turns.proofs.Updating.{updated_none}
 
 -- what is reserved is in RAM of as many blocks

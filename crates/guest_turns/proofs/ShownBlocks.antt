@@ -8,7 +8,8 @@ use Rattle.arch_defs.specs.Ram.{SlicesLieIn, slices}
 use Rattle.arch_defs.specs.Spaces.{Space}
 use Rattle.guest_exit.specs.declared.guests.Guest.{Guest}
 use Rattle.guest_exit.specs.View.{machine_of}
-use Rattle.guest_exit.proofs.Pools.{blocks_held, size_of}
+use Rattle.hosted_steps.proofs.Followed.{blocks_held}
+use Rattle.guest_exit.proofs.Pools.{size_of}
 use Rattle.guest_save.specs.Headers.{blocks_of, header_of}
 use Rattle.machine_defs.specs.Machine.{Machine}
 use Rattle.shadow_pool.specs.Slots.{room_of}
@@ -56,7 +57,7 @@ pub block_shown : (guest : Guest) (memory : List ℕ) (number : ℕ) → IsHoste
 block_shown guest memory number at h =
     sym (slice_shown block_size guest.part.blocks memory number (block_inside guest memory number at h) (blocks_held guest.part memory at.placed.held))
 
--- a space is the same whatever stands for one that there is not
+-- a space is the same whatever stands for one that does not exist
 pub same_space : (spaces : List Space) (i : ℕ) (d e : Space) → i < length spaces → slice_index_or spaces i d ≡ slice_index_or spaces i e
 same_space spaces i d e h = get_or_default spaces i d e h
 

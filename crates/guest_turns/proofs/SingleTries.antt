@@ -1,6 +1,6 @@
 -- One try of a guest's next step: an interrupt, a step of the hart, or what the host makes of what it left.
 use Rattle.std.specs.Prelude.{◌↔◌, nat_le}
-use Rattle.std.proofs.Common.{◌≡◌, ℕ, ◌+◌, ◌<◌, ◌≤◌, ◌∙◌, Bool, false, List, [], ◌∷◌, None, refl, ap, sym, subst, arith}
+use Rattle.std.proofs.Common.{◌≡◌, ℕ, ◌+◌, ◌<◌, ◌∙◌, Bool, false, List, [], ◌∷◌, None, refl, ap, sym, subst, arith}
 use Rattle.arch_defs.specs.Inputs.{has_input}
 use Rattle.guest_settings.specs.declared.statuses.Status.TheVariants.{Running}
 use Rattle.machine_defs.specs.declared.events.Event.{Event}
@@ -23,6 +23,7 @@ use Rattle.guest_turns.specs.Tries.{HasTried, IsTried, events_made, made_by_host
 use Rattle.guest_turns.specs.TurnLists.{updated}
 use Rattle.guest_turns.specs.declared.trying.Made.{Made}
 use Rattle.guest_turns.specs.declared.trying.Made.TheVariants as made
+use Rattle.guest_turns.proofs.Turns.{one_plain}
 
 -- nothing changes before the first step begins
 now_is : (has_come : ℕ → Bool) (clock n : ℕ) → n < 1 → has_come (clock + n) ≡ has_come clock
@@ -86,11 +87,6 @@ handled_counts m between next result old new same account steps =
     }
 
 -- a step of the hart
-one_plain : (e : Event) → plain_count (e ∷ []) ≤ 1
-one_plain (event.Plain pc word) = omega arith
-one_plain (event.Trap level interrupt) = omega arith
-one_plain event.System = omega arith
-
 pub entered_counts : (m next : Machine) (e : Event) (old new : Counts) → MakesSteps 1 m next → event_in (try m) ≡ e ∷ [] → IsAccounted 1 (trace_of (events m 1)) old new
     → next.platform.steps ≡ m.platform.steps + 1 → CountsTry m next (e ∷ []) old new
 entered_counts m next e old new made is account steps =

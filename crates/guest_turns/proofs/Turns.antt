@@ -35,7 +35,7 @@ pub instructions_then : (xs ys : List Event) → instruction_count (xs ++ ys) �
 instructions_then xs ys = sum_by-append (λ e. cond (is_instruction e) 1 0) xs ys
 
 -- no more steps are plain than are made
-one_plain : (e : Event) → plain_count (e ∷ []) ≤ 1
+pub one_plain : (e : Event) → plain_count (e ∷ []) ≤ 1
 one_plain (event.Plain pc word) = omega arith
 one_plain (event.Trap level interrupt) = omega arith
 one_plain event.System = omega arith

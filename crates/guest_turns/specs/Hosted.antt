@@ -38,7 +38,7 @@ abbrev pub with_free : List ℕ → List Bool → List Bool
 with_free [] free = free
 with_free (block ∷ blocks) free = with_free blocks (slice_set free block true)
 
--- a machine without memory that has stopped: that of a guest that there is not
+-- a machine without memory that has stopped: that of a guest that does not exist
 unfoldable pub no_machine : Machine
 no_machine = record {
   platform = record {

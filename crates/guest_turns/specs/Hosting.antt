@@ -1,5 +1,5 @@
 -- What a host keeps of its guests in machine memory.
-use Rattle.std.specs.Prelude.{ℕ, ◌≡◌, ◌+◌, ◌*◌, ◌^◌, ◌<◌, ◌≤◌, Bool, true, false, List, [], ◌∷◌, length, get_or, map}
+use Rattle.std.specs.Prelude.{ℕ, ◌≡◌, ◌≢◌, ◌+◌, ◌*◌, ◌^◌, ◌<◌, ◌≤◌, Bool, true, false, List, [], ◌∷◌, length, get_or, map}
 use Rattle.arch_defs.specs.Frames.{Apart, Frames, LieIn, Only, in_blocks}
 use Rattle.arch_defs.specs.Layouts.{Layout, named_by}
 use Rattle.arch_defs.specs.Ram.{ram_of}
@@ -50,15 +50,37 @@ pub record AreHosted (guests : List Guest) (retired free : List Bool) (memory : 
   pub few : length guests ≤ 16
   pub each : (i : ℕ) (d : Guest) → i < length guests → is_set retired i ≡ false
       → IsHosted (get_or guests i d) memory
-  pub gone : (i : ℕ) (d : Guest) → i < length guests → is_set retired i ≡ true → IsGone (get_or guests i d)
+  pub gone : (i : ℕ) (d : Guest) → i < length guests → is_set retired i ≡ true
+      → IsGone (get_or guests i d)
   pub apart : ArePairwiseApart (parts_of guests)
   pub spare : (block : ℕ) → is_set free block ≡ true → IsFree block (parts_of guests) memory
 
 -- a guest and machine memory after that many steps of its lone machine
-pub record HasRun (old : Guest) (memory : List ℕ) (k : ℕ) (new : Guest) (changed : List ℕ) : Type 0 where
+pub record HasRun (old : Guest) (memory : List ℕ) (k : ℕ)
+    (new : Guest) (changed : List ℕ) : Type 0 where
   pub machine : machine_of new changed ≡ run (machine_of old memory) k
   pub keeps : KeepsLayout old new
   pub only : Only (changed_by old) memory changed
+  pub hosted : IsHosted new changed
+
+-- of at most that many steps a turn has made these, and fewer only where the guest does not go on
+pub record CountsTurn (old : Guest) (k : ℕ) (new : Guest) (made : ℕ) : Type 0 where
+  pub steps : old.steps + made ≡ new.steps
+  pub most : made ≤ k
+  pub fewer : made < k → new.status ≢ Running
+
+-- a guest stays so after a try, with its layout, and of machine memory its own frames alone have changed
+pub record StaysHosted (old : Guest) (memory : List ℕ) (new : Guest) (changed : List ℕ) : Type 0 where
+  pub hosted : IsHosted new changed
+  pub keeps : KeepsLayout old new
+  pub only : Only (changed_by old) memory changed
+
+-- a guest goes on, and may make some of that many steps, for which its count has room
+pub record CanAdvance (guest : Guest) (memory : List ℕ) (left : ℕ) : Type 0 where
+  pub running : guest.status ≡ Running
+  pub hosted : IsHosted guest memory
+  pub some : 1 ≤ left
+  pub steps : guest.steps + left ≤ 2 ^ 61
 
 -- after a part of that many steps: as many steps as are left are the same run, and take fewer tries
 pub record Advances (old : Guest) (memory : List ℕ) (k : ℕ) (new : Guest) (changed : List ℕ)
@@ -122,8 +144,8 @@ pub record HaveParts (sources : List Source) (parts : List Layout) (size : ℕ) 
   pub whole : size ≡ frames * 4096
 
 -- the RAM of that many guests in machine memory is that of their machines, and their host tables are written.
--- That of the others is zeros. The frames for the tables of the spaces of all guests but the first ones, whose
--- spaces are made, are zeros, and so are those that are in no part
+-- That of the others is zeros. The frames for the tables of the spaces of all guests but the first ones,
+-- whose spaces are made, are zeros, and so are those that are in no part
 pub record AreLaidOut (sources : List Source) (parts : List Layout) (done made : ℕ)
     (memory : List ℕ) : Type 0 where
   pub ram : (i : ℕ) (s : Source) (d : Layout) → i < done

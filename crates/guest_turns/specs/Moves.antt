@@ -1,16 +1,29 @@
 -- What a move of a block, and the retirement of a guest, leave of a host.
-use Rattle.std.specs.Prelude.{ℕ, ◌≡◌, ◌+◌, true, false, [], ◌∷◌, length, slice_index, slice_set}
+use Rattle.std.specs.Prelude.{ℕ, ◌≡◌, ◌+◌, true, false, List, [], ◌∷◌, length, slice_index, slice_set}
 use Rattle.arch_defs.specs.Frames.{Only, in_blocks, joined}
 use Rattle.arch_defs.specs.Layouts.{named_by}
 use Rattle.machine_defs.specs.Machine.{Machine}
 use Rattle.shadow_space.specs.Shadows.{AreZeros}
 use Rattle.block_moves.specs.Moves.{with_block, without_blocks}
+use Rattle.guest_exit.specs.declared.guests.Guest.{Guest}
+use Rattle.guest_exit.specs.View.{machine_of}
+use Rattle.guest_turns.specs.Hosting.{IsHosted}
 use Rattle.guest_turns.specs.Hosted.{Hosted, count_set, part_at, with_free}
 use Rattle.guest_turns.specs.TurnLists.{updated}
 
 -- the number of a block of a guest in machine memory
 abbrev pub block_at : Hosted → ℕ → ℕ → ℕ
 block_at host g block = slice_index (part_at host.parts g).blocks block
+
+-- block i of a guest is another block of memory now. Its lone machine is the same, the old block is zeros,
+-- and nothing else of memory has changed, but in the guest's part
+pub record IsShifted (old : Guest) (memory : List ℕ) (i to : ℕ) (new : Guest) (changed : List ℕ)
+    : Type 0 where
+  pub hosted : IsHosted new changed
+  pub part : new.part ≡ with_block old.part i to
+  pub machine : machine_of new changed ≡ machine_of old memory
+  pub zeros : AreZeros (in_blocks (slice_index old.part.blocks i ∷ [])) changed
+  pub only : Only (joined (named_by old.part) (in_blocks (to ∷ []))) memory changed
 
 -- a block of the guest g is another block of memory now. Every lone machine is the same; the old block is
 -- zeros, and free in place of the new one; and nothing else of memory has changed, but in the guest's part

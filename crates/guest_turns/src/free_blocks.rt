@@ -58,7 +58,8 @@ impl FreeBlocks {
     /// The lowest one, if there is any.
     #[tactic(auto, using(crate::proofs::Flags::lowest_found, crate::proofs::Flags::none_found))]
     pub fn lowest(&self) -> Option<u32>
-        ensures some { IfSome result (λ block. (block ≡ lowest self.now) × (is_set self.now block ≡ true)) }
+        ensures some { IfSome result (λ block. (block ≡ lowest self.now)
+            × (is_set self.now block ≡ true)) }
         ensures none { IsNone result ↔ (count_set self.now ≡ 0) }
     {
         match first_set(&self.free) {

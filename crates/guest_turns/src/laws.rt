@@ -12,8 +12,8 @@ pub fn turns_are_apart()
     ensures order { OrderHasNoEffect }
 {}
 
-/// Whatever is counted of events, such as the sum of pc and word of the plain steps, turns in any order count
-/// for as much as the lone machines' own runs. A run of `k` makes at most `k` steps.
+/// Whatever is counted of events, turns in any order count for as much as the lone machines' own runs. The
+/// sum of pc and word of the plain steps is such a count. A run of `k` makes at most `k` steps.
 pub fn turns_count_alike()
     ensures alike { TurnsCountAlike }
     ensures most { RunsMakeAtMost }

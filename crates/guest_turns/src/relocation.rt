@@ -1,12 +1,10 @@
 // Moves of blocks.
 
-ghost use Rattle.std.specs.Prelude.{◌≡◌, ◌+◌, ◌^◌, ◌<◌, [], ◌∷◌, length, slice_index};
-ghost use Rattle.arch_defs.specs.Frames.{Apart, LieIn, Only, in_blocks, joined};
+ghost use Rattle.std.specs.Prelude.{◌≡◌, ◌+◌, ◌^◌, ◌<◌, [], ◌∷◌, length};
+ghost use Rattle.arch_defs.specs.Frames.{Apart, LieIn, in_blocks};
 ghost use Rattle.arch_defs.specs.Layouts.{named_by};
-ghost use Rattle.shadow_space.specs.Shadows.{AreZeros};
-ghost use Rattle.block_moves.specs.Moves.{with_block};
-ghost use Rattle.guest_exit.specs.View.{machine_of};
 ghost use Rattle.guest_turns.specs.Hosting.{IsHosted};
+ghost use Rattle.guest_turns.specs.Moves.{IsShifted};
 
 use block_moves::move_block;
 use guest_exit::Guest;
@@ -66,11 +64,7 @@ pub fn shift(guest: &mut Guest, memory: &mut PhysMem, i: usize, to: u32)
     requires index { i < length guest.old.part.blocks }
     requires free { Apart (in_blocks (to ∷ [])) (named_by guest.old.part) }
     requires lies { LieIn (in_blocks (to ∷ [])) (length memory.old) }
-    ensures hosted { IsHosted guest.new memory.new }
-    ensures part { guest.new.part ≡ with_block guest.old.part i to }
-    ensures machine { machine_of guest.new memory.new ≡ machine_of guest.old memory.old }
-    ensures zeros { AreZeros (in_blocks (slice_index guest.old.part.blocks i ∷ [])) memory.new }
-    ensures only { Only (joined (named_by guest.old.part) (in_blocks (to ∷ []))) memory.old memory.new }
+    ensures shifted { IsShifted guest.old memory.old i to guest.new memory.new }
 {
     let part = move_block(memory, &guest.part, &mut guest.pool, i, to);
     part.names_each_once();

@@ -3,7 +3,7 @@
 ghost use Rattle.std.specs.Prelude.{◌≡◌, ◌+◌, ◌<◌, [], drop, length};
 ghost use Rattle.guest_save.specs.Headers.{blocks_of};
 ghost use Rattle.shadow_pool.specs.Slots.{KeepsPool, TidyPool, spaces_of};
-ghost use Rattle.guest_turns.specs.Remaking.{FitsPool};
+ghost use Rattle.guest_turns.specs.Remaking.{FitsPool, IsRemade};
 
 use arch_defs::Key;
 use guest_exit::Pool;
@@ -33,9 +33,8 @@ fn remake_space(pool: &mut Pool, memory: &mut PhysMem, saved: &Saved, i: u64)
     requires fits { FitsPool saved.now.machine pool.old }
     requires space { i < length saved.now.machine.spaces }
     requires behind { spaces_of pool.old ≡ drop (i + 1) saved.now.machine.spaces }
-    ensures spaces { spaces_of pool.new ≡ drop i saved.now.machine.spaces }
-    ensures keeps { KeepsPool pool.old memory.old pool.new memory.new }
-    ensures tidy { TidyPool pool.new memory.new }
+    ensures remade { IsRemade pool.old memory.old (drop i saved.now.machine.spaces)
+        pool.new memory.new }
 {
     saved.can_be_saved();
     let key = Key::of(saved.key(i));

@@ -1,11 +1,11 @@
 // One try of a guest's next step.
 
-ghost use Rattle.std.specs.Prelude.{◌≡◌, ◌^◌, ◌<◌};
-ghost use Rattle.arch_defs.specs.Frames.{Only};
-ghost use Rattle.guest_settings.specs.declared.statuses.Status.TheVariants.{Running};
-ghost use Rattle.guest_exit.specs.View.{KeepsLayout, changed_by, machine_of};
+ghost use Rattle.std.specs.Prelude.{◌≡◌};
+ghost use Rattle.guest_exit.specs.HartEntry.{HasRoomForEntry};
+ghost use Rattle.guest_exit.specs.HartExit.{CanGoOn};
+ghost use Rattle.guest_exit.specs.View.{machine_of};
 ghost use Rattle.guest_turns.specs.Account.{CountsTry};
-ghost use Rattle.guest_turns.specs.Hosting.{IsHosted};
+ghost use Rattle.guest_turns.specs.Hosting.{StaysHosted};
 ghost use Rattle.guest_turns.specs.Tries.{IsTried, events_made, made_by_host};
 
 use arch_defs::Level;
@@ -28,16 +28,11 @@ pub enum Made {
 /// Makes one try of the next step of a guest that goes on.
 #[inline(never)]
 pub fn try_of(guest: &mut Guest, hart: &mut Hart, memory: &mut PhysMem, tally: &mut Tally) -> Made
-    requires running { guest.old.status ≡ Running }
-    requires hosted { IsHosted guest.old memory.old }
-    requires steps { guest.old.steps < 2 ^ 61 }
-    requires entries { tally.old.entries < 2 ^ 62 }
-    requires taken { tally.old.taken < 2 ^ 62 }
+    requires can { CanGoOn guest.old memory.old }
+    requires room { HasRoomForEntry 1 tally.old }
 
     ensures tried { IsTried result (machine_of guest.old memory.old) (machine_of guest.new memory.new) }
-    ensures keeps { KeepsLayout guest.old guest.new }
-    ensures only { Only (changed_by guest.old) memory.old memory.new }
-    ensures hosted { IsHosted guest.new memory.new }
+    ensures stays { StaysHosted guest.old memory.old guest.new memory.new }
     ensures account { CountsTry (machine_of guest.old memory.old) (machine_of guest.new memory.new)
         (events_made result) tally.old tally.new }
 {

@@ -1,10 +1,10 @@
 // A turn of one guest.
 
-ghost use Rattle.std.specs.Prelude.{◌≡◌, ◌≢◌, ◌+◌, ◌^◌, ◌<◌, ◌≤◌};
-ghost use Rattle.guest_settings.specs.declared.statuses.Status.TheVariants.{Running};
+ghost use Rattle.std.specs.Prelude.{◌≡◌, ◌+◌, ◌^◌, ◌≤◌};
+ghost use Rattle.guest_exit.specs.HartEntry.{HasRoomForEntry};
 ghost use Rattle.guest_exit.specs.View.{machine_of};
 ghost use Rattle.guest_turns.specs.Account.{Accounted, AccountedTo, HasRoomForTurn};
-ghost use Rattle.guest_turns.specs.Hosting.{Advances, CountsLeft, HasRun, IsHosted, used_by};
+ghost use Rattle.guest_turns.specs.Hosting.{Advances, CanAdvance, CountsLeft, CountsTurn, HasRun, IsHosted, used_by};
 
 use guest_exit::{Guest, Handled, enter, handle, interrupt, limit};
 use machine_defs::Status;
@@ -26,10 +26,7 @@ pub fn turn_of(
     requires room { HasRoomForTurn (machine_of guest.old memory.old) k tally.old }
 
     ensures run { HasRun guest.old memory.old k guest.new memory.new }
-    ensures hosted { IsHosted guest.new memory.new }
-    ensures made { guest.old.steps + result ≡ guest.new.steps }
-    ensures most { result ≤ k }
-    ensures fewer { result < k → guest.new.status ≢ Running }
+    ensures counts { CountsTurn guest.old k guest.new result }
     ensures account { Accounted (machine_of guest.old memory.old) k result tally.old tally.new }
 {
     let before = guest.steps;
@@ -52,12 +49,8 @@ fn advance(
     left: u64,
     tally: &mut Tally,
 ) -> u64
-    requires running { guest.old.status ≡ Running }
-    requires hosted { IsHosted guest.old memory.old }
-    requires some { 1 ≤ left }
-    requires steps { guest.old.steps + left ≤ 2 ^ 61 }
-    requires entries { tally.old.entries < 2 ^ 62 }
-    requires taken { tally.old.taken + left ≤ 2 ^ 62 }
+    requires can { CanAdvance guest.old memory.old left }
+    requires room { HasRoomForEntry left tally.old }
 
     ensures advances { Advances guest.old memory.old left guest.new memory.new result }
     ensures hosted { IsHosted guest.new memory.new }

@@ -1,4 +1,4 @@
-use Rattle.std.proofs.Common.{◌≡◌, ◌+◌, ap, refl, subst, ◌∙◌, arith, true}
+use Rattle.std.proofs.Common.{◌≡◌, ◌+◌, ◌^◌, ◌≤◌, ap, refl, subst, ◌∙◌, arith, true}
 use Rattle.rv64_hart.specs.Steps.{is_vs_trap, progress}
 use Rattle.guest_exit.specs.Steps.{MakesSteps}
 use Rattle.guest_exit.specs.View.{loaded_for, machine_of}
@@ -8,9 +8,12 @@ use Rattle.guest_exit.proofs.SingleEntries.{enters_once, left_once}
 use Rattle.guest_exit.proofs.StepEvents.{one_taken, other_shown, shown, trap_shown}
 use Rattle.guest_exit.proofs.hart_entry.enter_once.Goals as goal
 
-pub take_steps-requires-clause-event : goal.take_steps-requires-clause-event
-take_steps-requires-clause-event c =
-    before_timer c.args.guest.now.clock 1 c.run-stop.result.taken c.requires.can.lasts.timer c.run-stop.ensures.within
+pub take_steps-requires-clause-room : goal.take_steps-requires-clause-room
+take_steps-requires-clause-room c = record {
+  event = before_timer c.args.guest.now.clock 1 c.run-stop.result.taken c.requires.can.lasts.timer c.run-stop.ensures.within;
+  clock = omega (arith, c.requires.can.clock, c.requires.can.steps, c.run-stop.ensures.within);
+  steps = omega (arith, c.requires.can.steps, c.run-stop.ensures.within);
+}
 
 pub take_steps-requires-clause-none : goal.take_steps-requires-clause-none
 take_steps-requires-clause-none c = λ none.
@@ -24,35 +27,28 @@ take_steps-requires-clause-none c = λ none.
     (rw (c.load.ensures.has, c.root_frame_of-root.ensures) at c.run-stop.ensures.steps)) none)
 
 -- at the limit one step is made
-pub returns-in-Limit-clause-run : goal.returns-in-Limit-clause-run
-returns-in-Limit-clause-run c =
+pub returns-in-Limit-clause-entered : goal.returns-in-Limit-clause-entered
+returns-in-Limit-clause-entered c =
     let guest = c.args.guest.now in
     let stop = c.run-stop.result in
-    let steps = steps_from _ guest.part guest.pool guest.virt c.args.memory.now c.args.tally.now.trace stop.taken _
+    let q = progress c.run-stop.new.self.state c.run-stop.new.memory c.run-stop.new.tally.trace (is_vs_trap stop.why) in
+    let steps = steps_from _ guest.part guest.pool guest.virt c.args.memory.now c.args.tally.now.trace stop.taken q
     (rw (c.load.ensures.has, c.root_frame_of-root.ensures) at c.run-stop.ensures.steps) in
+    let goes = c.take_steps.ensures.goes in
     let one = enters_once guest c.take_steps.new.self c.args.memory.now c.run-stop.new.memory c.run-stop.new.self.state c.args.tally.now.trace c.run-stop.new.tally.trace stop.taken (is_vs_trap stop.why)
-    c.requires.can c.run-stop.ensures.within steps (rw (c.is_vs_trap.ensures, c.state.ensures) at c.take_steps.ensures.platform) c.take_steps.ensures.keeps in
-    subst (λ n. MakesSteps n (machine_of guest c.args.memory.now) (machine_of c.take_steps.new.self c.run-stop.new.memory)) (rw c.in-Limit.is at c.run-stop.ensures.why) one.run
-
-pub returns-in-Limit-clause-keeps : goal.returns-in-Limit-clause-keeps
-returns-in-Limit-clause-keeps c =
-    let guest = c.args.guest.now in
-    let stop = c.run-stop.result in
-    let steps = steps_from _ guest.part guest.pool guest.virt c.args.memory.now c.args.tally.now.trace stop.taken _
-    (rw (c.load.ensures.has, c.root_frame_of-root.ensures) at c.run-stop.ensures.steps) in
-    (enters_once guest c.take_steps.new.self c.args.memory.now c.run-stop.new.memory c.run-stop.new.self.state c.args.tally.now.trace c.run-stop.new.tally.trace stop.taken (is_vs_trap stop.why)
-    c.requires.can c.run-stop.ensures.within steps (rw (c.is_vs_trap.ensures, c.state.ensures) at c.take_steps.ensures.platform) c.take_steps.ensures.keeps).keeps
-
-pub returns-in-Limit-clause-account : goal.returns-in-Limit-clause-account
-returns-in-Limit-clause-account c =
-    let guest = c.args.guest.now in
-    let stop = c.run-stop.result in
-    let steps = steps_from _ guest.part guest.pool guest.virt c.args.memory.now c.args.tally.now.trace stop.taken _
-    (rw (c.load.ensures.has, c.root_frame_of-root.ensures) at c.run-stop.ensures.steps) in
-    let one = enters_once guest c.take_steps.new.self c.args.memory.now c.run-stop.new.memory c.run-stop.new.self.state c.args.tally.now.trace c.run-stop.new.tally.trace stop.taken (is_vs_trap stop.why)
-    c.requires.can c.run-stop.ensures.within steps (rw (c.is_vs_trap.ensures, c.state.ensures) at c.take_steps.ensures.platform) c.take_steps.ensures.keeps in
+    c.requires.can c.run-stop.ensures.within steps (rw (c.is_vs_trap.ensures, c.state.ensures) at c.take_steps.ensures.platform) goes.keeps in
     let taken : stop.taken ≡ 1 = rw c.in-Limit.is at c.run-stop.ensures.why in
-    record { entries = c.run-stop.ensures.entries; taken = c.run-stop.ensures.taken ∙ ap (λ n. c.args.tally.now.taken + n) taken; trace = rw taken at one.trace }
+    record {
+      run = subst (λ n. MakesSteps n (machine_of guest c.args.memory.now) (machine_of c.take_steps.new.self c.run-stop.new.memory)) taken one.run;
+      goes = record {
+        status = goes.status ∙ c.requires.can.running;
+        steps = goes.made ∙ ap (λ n. guest.steps + n) taken;
+        clock = goes.clock ∙ ap (λ n. guest.clock.time + n) taken;
+        current = c.take_steps.ensures.current;
+      };
+      keeps = one.keeps;
+      account = record { entries = c.run-stop.ensures.entries; taken = c.run-stop.ensures.taken ∙ ap (λ n. c.args.tally.now.taken + n) taken; trace = rw taken at one.trace };
+    }
 
 pub returns-in-Limit-clause-event : goal.returns-in-Limit-clause-event
 returns-in-Limit-clause-event c =
@@ -69,52 +65,27 @@ returns-in-Limit-clause-event c =
     (record { system = c.event_by.ensures.system; plain = c.event_by.ensures.plain })
 
 -- and so it is before a trap into VS
-pub returns-in-VsTrap-clause-run : goal.returns-in-VsTrap-clause-run
-returns-in-VsTrap-clause-run c =
+pub returns-in-VsTrap-clause-entered : goal.returns-in-VsTrap-clause-entered
+returns-in-VsTrap-clause-entered c =
     let guest = c.args.guest.now in
     let stop = c.run-stop.result in
     let q = progress c.run-stop.new.self.state c.run-stop.new.memory c.run-stop.new.tally.trace (is_vs_trap stop.why) in
     let steps = steps_from _ guest.part guest.pool guest.virt c.args.memory.now c.args.tally.now.trace stop.taken q
     (rw (c.load.ensures.has, c.root_frame_of-root.ensures) at c.run-stop.ensures.steps) in
+    let goes = c.take_steps.ensures.goes in
     let one = enters_once guest c.take_steps.new.self c.args.memory.now c.run-stop.new.memory c.run-stop.new.self.state c.args.tally.now.trace c.run-stop.new.tally.trace stop.taken (is_vs_trap stop.why)
-    c.requires.can c.run-stop.ensures.within steps (rw (c.is_vs_trap.ensures, c.state.ensures) at c.take_steps.ensures.platform) c.take_steps.ensures.keeps in
-    subst (λ n. MakesSteps n (machine_of guest c.args.memory.now) (machine_of c.take_steps.new.self c.run-stop.new.memory))
-    (one_taken stop.taken (loaded_for guest) c.args.memory.now c.args.tally.now.trace q c.run-stop.ensures.within steps (rw c.in-VsTrap.is refl)) one.run
-
-pub returns-in-VsTrap-clause-keeps : goal.returns-in-VsTrap-clause-keeps
-returns-in-VsTrap-clause-keeps c =
-    let guest = c.args.guest.now in
-    let stop = c.run-stop.result in
-    let steps = steps_from _ guest.part guest.pool guest.virt c.args.memory.now c.args.tally.now.trace stop.taken _
-    (rw (c.load.ensures.has, c.root_frame_of-root.ensures) at c.run-stop.ensures.steps) in
-    (enters_once guest c.take_steps.new.self c.args.memory.now c.run-stop.new.memory c.run-stop.new.self.state c.args.tally.now.trace c.run-stop.new.tally.trace stop.taken (is_vs_trap stop.why)
-    c.requires.can c.run-stop.ensures.within steps (rw (c.is_vs_trap.ensures, c.state.ensures) at c.take_steps.ensures.platform) c.take_steps.ensures.keeps).keeps
-
-pub returns-in-VsTrap-clause-account : goal.returns-in-VsTrap-clause-account
-returns-in-VsTrap-clause-account c =
-    let guest = c.args.guest.now in
-    let stop = c.run-stop.result in
-    let q = progress c.run-stop.new.self.state c.run-stop.new.memory c.run-stop.new.tally.trace (is_vs_trap stop.why) in
-    let steps = steps_from _ guest.part guest.pool guest.virt c.args.memory.now c.args.tally.now.trace stop.taken q
-    (rw (c.load.ensures.has, c.root_frame_of-root.ensures) at c.run-stop.ensures.steps) in
-    let one = enters_once guest c.take_steps.new.self c.args.memory.now c.run-stop.new.memory c.run-stop.new.self.state c.args.tally.now.trace c.run-stop.new.tally.trace stop.taken (is_vs_trap stop.why)
-    c.requires.can c.run-stop.ensures.within steps (rw (c.is_vs_trap.ensures, c.state.ensures) at c.take_steps.ensures.platform) c.take_steps.ensures.keeps in
-    let taken = one_taken stop.taken (loaded_for guest) c.args.memory.now c.args.tally.now.trace q c.run-stop.ensures.within steps (rw c.in-VsTrap.is refl) in
-    record { entries = c.run-stop.ensures.entries; taken = c.run-stop.ensures.taken ∙ ap (λ n. c.args.tally.now.taken + n) taken; trace = rw taken at one.trace }
-
-pub returns-in-VsTrap-clause-goes : goal.returns-in-VsTrap-clause-goes
-returns-in-VsTrap-clause-goes c =
-    let guest = c.args.guest.now in
-    let stop = c.run-stop.result in
-    let q = progress c.run-stop.new.self.state c.run-stop.new.memory c.run-stop.new.tally.trace (is_vs_trap stop.why) in
-    let steps = steps_from _ guest.part guest.pool guest.virt c.args.memory.now c.args.tally.now.trace stop.taken q
-    (rw (c.load.ensures.has, c.root_frame_of-root.ensures) at c.run-stop.ensures.steps) in
+    c.requires.can c.run-stop.ensures.within steps (rw (c.is_vs_trap.ensures, c.state.ensures) at c.take_steps.ensures.platform) goes.keeps in
     let taken = one_taken stop.taken (loaded_for guest) c.args.memory.now c.args.tally.now.trace q c.run-stop.ensures.within steps (rw c.in-VsTrap.is refl) in
     record {
-      status = c.take_steps.ensures.status ∙ c.requires.can.running;
-      steps = c.take_steps.ensures.made ∙ ap (λ n. guest.steps + n) taken;
-      clock = c.take_steps.ensures.clock ∙ ap (λ n. guest.clock.time + n) taken;
-      current = c.take_steps.ensures.current;
+      run = subst (λ n. MakesSteps n (machine_of guest c.args.memory.now) (machine_of c.take_steps.new.self c.run-stop.new.memory)) taken one.run;
+      goes = record {
+        status = goes.status ∙ c.requires.can.running;
+        steps = goes.made ∙ ap (λ n. guest.steps + n) taken;
+        clock = goes.clock ∙ ap (λ n. guest.clock.time + n) taken;
+        current = c.take_steps.ensures.current;
+      };
+      keeps = one.keeps;
+      account = record { entries = c.run-stop.ensures.entries; taken = c.run-stop.ensures.taken ∙ ap (λ n. c.args.tally.now.taken + n) taken; trace = rw taken at one.trace };
     }
 
 pub returns-in-VsTrap-clause-event : goal.returns-in-VsTrap-clause-event
@@ -131,36 +102,28 @@ returns-in-VsTrap-clause-event c =
     rw (c.hosted_level-level.ensures, c.is_interrupted-interrupt.ensures) (trap_shown m t q is (rw c.in-VsTrap.is refl))
 
 -- a step that the hart leaves is not made
-pub returns-in-Exit-clause-run : goal.returns-in-Exit-clause-run
-returns-in-Exit-clause-run c =
+pub returns-in-Exit-clause-entered : goal.returns-in-Exit-clause-entered
+returns-in-Exit-clause-entered c =
     let guest = c.args.guest.now in
     let stop = c.run-stop.result in
-    let steps = steps_from _ guest.part guest.pool guest.virt c.args.memory.now c.args.tally.now.trace stop.taken _
+    let q = progress c.run-stop.new.self.state c.run-stop.new.memory c.run-stop.new.tally.trace (is_vs_trap stop.why) in
+    let steps = steps_from _ guest.part guest.pool guest.virt c.args.memory.now c.args.tally.now.trace stop.taken q
     (rw (c.load.ensures.has, c.root_frame_of-root.ensures) at c.run-stop.ensures.steps) in
+    let goes = c.take_steps.ensures.goes in
     let one = enters_once guest c.take_steps.new.self c.args.memory.now c.run-stop.new.memory c.run-stop.new.self.state c.args.tally.now.trace c.run-stop.new.tally.trace stop.taken (is_vs_trap stop.why)
-    c.requires.can c.run-stop.ensures.within steps (rw (c.is_vs_trap.ensures, c.state.ensures) at c.take_steps.ensures.platform) c.take_steps.ensures.keeps in
+    c.requires.can c.run-stop.ensures.within steps (rw (c.is_vs_trap.ensures, c.state.ensures) at c.take_steps.ensures.platform) goes.keeps in
     let taken : stop.taken ≡ 0 = omega (arith, (rw c.in-Exit.is at c.run-stop.ensures.why).0) in
-    subst (λ n. MakesSteps n (machine_of guest c.args.memory.now) (machine_of c.take_steps.new.self c.run-stop.new.memory)) taken one.run
-
-pub returns-in-Exit-clause-keeps : goal.returns-in-Exit-clause-keeps
-returns-in-Exit-clause-keeps c =
-    let guest = c.args.guest.now in
-    let stop = c.run-stop.result in
-    let steps = steps_from _ guest.part guest.pool guest.virt c.args.memory.now c.args.tally.now.trace stop.taken _
-    (rw (c.load.ensures.has, c.root_frame_of-root.ensures) at c.run-stop.ensures.steps) in
-    (enters_once guest c.take_steps.new.self c.args.memory.now c.run-stop.new.memory c.run-stop.new.self.state c.args.tally.now.trace c.run-stop.new.tally.trace stop.taken (is_vs_trap stop.why)
-    c.requires.can c.run-stop.ensures.within steps (rw (c.is_vs_trap.ensures, c.state.ensures) at c.take_steps.ensures.platform) c.take_steps.ensures.keeps).keeps
-
-pub returns-in-Exit-clause-account : goal.returns-in-Exit-clause-account
-returns-in-Exit-clause-account c =
-    let guest = c.args.guest.now in
-    let stop = c.run-stop.result in
-    let steps = steps_from _ guest.part guest.pool guest.virt c.args.memory.now c.args.tally.now.trace stop.taken _
-    (rw (c.load.ensures.has, c.root_frame_of-root.ensures) at c.run-stop.ensures.steps) in
-    let one = enters_once guest c.take_steps.new.self c.args.memory.now c.run-stop.new.memory c.run-stop.new.self.state c.args.tally.now.trace c.run-stop.new.tally.trace stop.taken (is_vs_trap stop.why)
-    c.requires.can c.run-stop.ensures.within steps (rw (c.is_vs_trap.ensures, c.state.ensures) at c.take_steps.ensures.platform) c.take_steps.ensures.keeps in
-    let taken : stop.taken ≡ 0 = omega (arith, (rw c.in-Exit.is at c.run-stop.ensures.why).0) in
-    record { entries = c.run-stop.ensures.entries; taken = c.run-stop.ensures.taken ∙ ap (λ n. c.args.tally.now.taken + n) taken; trace = rw taken at one.trace }
+    record {
+      run = subst (λ n. MakesSteps n (machine_of guest c.args.memory.now) (machine_of c.take_steps.new.self c.run-stop.new.memory)) taken one.run;
+      goes = record {
+        status = goes.status ∙ c.requires.can.running;
+        steps = goes.made ∙ ap (λ n. guest.steps + n) taken;
+        clock = goes.clock ∙ ap (λ n. guest.clock.time + n) taken;
+        current = c.take_steps.ensures.current;
+      };
+      keeps = one.keeps;
+      account = record { entries = c.run-stop.ensures.entries; taken = c.run-stop.ensures.taken ∙ ap (λ n. c.args.tally.now.taken + n) taken; trace = rw taken at one.trace };
+    }
 
 pub returns-in-Exit-clause-event : goal.returns-in-Exit-clause-event
 returns-in-Exit-clause-event c =
@@ -171,7 +134,7 @@ returns-in-Exit-clause-event c =
     let steps = steps_from _ guest.part guest.pool guest.virt c.args.memory.now t stop.taken q
     (rw (c.load.ensures.has, c.root_frame_of-root.ensures) at c.run-stop.ensures.steps) in
     let one = enters_once guest c.take_steps.new.self c.args.memory.now c.run-stop.new.memory c.run-stop.new.self.state t c.run-stop.new.tally.trace stop.taken (is_vs_trap stop.why)
-    c.requires.can c.run-stop.ensures.within steps (rw (c.is_vs_trap.ensures, c.state.ensures) at c.take_steps.ensures.platform) c.take_steps.ensures.keeps in
+    c.requires.can c.run-stop.ensures.within steps (rw (c.is_vs_trap.ensures, c.state.ensures) at c.take_steps.ensures.platform) c.take_steps.ensures.goes.keeps in
     let why = rw c.in-Exit.is at c.run-stop.ensures.why in
     left_once guest c.take_steps.new.self c.args.memory.now c.run-stop.new.memory c.run-stop.new.self.state t c.run-stop.new.tally.trace stop.taken c.in-Exit.trap
     c.requires.can c.run-stop.ensures.within (rw c.in-Exit.is at steps) why.0 why.1 one.run

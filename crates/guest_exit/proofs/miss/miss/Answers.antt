@@ -1,4 +1,4 @@
-use Rattle.std.proofs.Common.{◌≡◌, ◌∙◌, true, false, refl, ap, sym}
+use Rattle.std.proofs.Common.{rules, ◌≡◌, ◌∙◌, true, false, refl, ap, sym}
 use Rattle.machine_defs.specs.Runs.{event_in, left_by}
 use Rattle.machine_defs.specs.Tries.{device_of, unplaced}
 use Rattle.hosted_steps.specs.ExitCases.{data_wanted, found_next, having_found}
@@ -21,70 +21,64 @@ pub fill-requires-clause-entry : goal.fill-requires-clause-entry
 fill-requires-clause-entry c =
     can_fill c.args.guest.now c.args.memory.now c.args.access.now c.in-Some.entry c.requires.left.can.placed (sym c.entry_for.ensures.entry ∙ c.in-Some.is)
 
-pub returns-in-Some-clause-makes : goal.returns-in-Some-clause-makes
-returns-in-Some-clause-makes c = record {
-  ready = λ went. absurd (went refl);
-  step = λ went. absurd (went refl);
-  fill = λ retry.
-      fill_made c.args.guest.now (record c.args.guest.now { pool = c.fill.new.self }) c.args.memory.now c.fill.new.mem c.args.access.now c.in-Some.entry
-      c.requires.left.can.placed (sym c.entry_for.ensures.entry ∙ c.in-Some.is)
-      refl refl (rw c.entry_for.ensures.stays at c.fill.ensures.keeps) refl
-      (c.fill.ensures.spaces ∙ filled_in_front c.key-key.result c.args.guest.now.pool.most (spaces_of c.args.guest.now.pool) c.in-Some.entry
-      (rw c.key-key.ensures (folding_front c.args.guest.now c.args.memory.now c.args.access.now c.in-Some.entry c.requires.left.can.placed (sym c.entry_for.ensures.entry ∙ c.in-Some.is)).first));
-}
-
--- on the device page nothing is missing
-pub returns-then-has_on_device-clause-makes : goal.returns-then-has_on_device-clause-makes
-returns-then-has_on_device-clause-makes c =
+pub returns-in-Some-clause-made : goal.returns-in-Some-clause-made
+returns-in-Some-clause-made c =
     let m = machine_of c.args.guest.now c.args.memory.now in
-    let missing = c.args.access.now in
-    let on : device_of m missing.address missing.kind ≡ true = sym (c.has_on_device.ensures c.args.memory.now) ∙ c.if-has_on_device.true in
     record {
-      ready = λ went. none_on_device m missing on;
-      step = λ went. c.access_device.ensures.step c.args.memory.now ∙ ap (λ b. left_by m (unplaced (having_found (found_next m) m) missing (data_wanted m) b)) (sym on);
-      fill = λ retry. absurd (c.access_device.ensures.went retry);
+      makes = record {
+        ready = λ went. absurd (went refl);
+        step = λ went. absurd (went refl);
+        fill = λ retry.
+            fill_made c.args.guest.now (record c.args.guest.now { pool = c.fill.new.self }) c.args.memory.now c.fill.new.mem c.args.access.now c.in-Some.entry
+            c.requires.left.can.placed (sym c.entry_for.ensures.entry ∙ c.in-Some.is)
+            refl refl (rw c.entry_for.ensures.stays at c.fill.ensures.keeps) refl
+            (c.fill.ensures.spaces ∙ filled_in_front c.key-key.result c.args.guest.now.pool.most (spaces_of c.args.guest.now.pool) c.in-Some.entry
+            (rw c.key-key.ensures (folding_front c.args.guest.now c.args.memory.now c.args.access.now c.in-Some.entry c.requires.left.can.placed (sym c.entry_for.ensures.entry ∙ c.in-Some.is)).first));
+      };
+      stops = (λ e. absurd (cc), λ stop. absurd (cc));
+      quiet = unplaced_is_quiet (having_found (found_next m) m) c.args.access.now (data_wanted m) (device_of m c.args.access.now.address c.args.access.now.kind);
+      event = λ went. absurd (went refl);
+      told = search rules;
+      within = search rules;
     }
 
-pub returns-in-None-clause-makes : goal.returns-in-None-clause-makes
-returns-in-None-clause-makes c =
-    let m = machine_of c.args.guest.now c.args.memory.now in
-    let missing = c.args.access.now in
-    let off : device_of m missing.address missing.kind ≡ false = sym (c.has_on_device.ensures c.args.memory.now) ∙ c.if-has_on_device.false in
-    rw (c.raise_fault.ensures.stays, c.entry_for.ensures.stays) (record {
-      ready = λ went. sym c.entry_for.ensures.entry ∙ c.in-None.is;
-      step = λ went. (rw c.entry_for.ensures.stays at c.raise_fault.ensures.step c.args.memory.now)
-          ∙ ap (λ b. left_by m (unplaced (having_found (found_next m) m) missing (data_wanted m) b)) (sym off);
-      fill = λ retry. absurd (c.raise_fault.ensures.went retry);
-    })
-
--- whatever the answer is
-pub returns-then-has_on_device-clause-quiet : goal.returns-then-has_on_device-clause-quiet
-returns-then-has_on_device-clause-quiet c =
-    let m = machine_of c.args.guest.now c.args.memory.now in unplaced_is_quiet (having_found (found_next m) m) c.args.access.now (data_wanted m) (device_of m c.args.access.now.address c.args.access.now.kind)
-
-pub returns-in-Some-clause-quiet : goal.returns-in-Some-clause-quiet
-returns-in-Some-clause-quiet c =
-    let m = machine_of c.args.guest.now c.args.memory.now in unplaced_is_quiet (having_found (found_next m) m) c.args.access.now (data_wanted m) (device_of m c.args.access.now.address c.args.access.now.kind)
-
-pub returns-in-None-clause-quiet : goal.returns-in-None-clause-quiet
-returns-in-None-clause-quiet c =
-    let m = machine_of c.args.guest.now c.args.memory.now in unplaced_is_quiet (having_found (found_next m) m) c.args.access.now (data_wanted m) (device_of m c.args.access.now.address c.args.access.now.kind)
-
--- the event is that of what is made
-pub returns-then-has_on_device-clause-event : goal.returns-then-has_on_device-clause-event
-returns-then-has_on_device-clause-event c = λ went.
+-- on the device page nothing is missing
+pub returns-then-has_on_device-clause-made : goal.returns-then-has_on_device-clause-made
+returns-then-has_on_device-clause-made c =
     let m = machine_of c.args.guest.now c.args.memory.now in
     let missing = c.args.access.now in
     let on : device_of m missing.address missing.kind ≡ true = sym (c.has_on_device.ensures c.args.memory.now) ∙ c.if-has_on_device.true in
-    ap (λ b. event_in (unplaced (having_found (found_next m) m) missing (data_wanted m) b)) on ∙ c.access_device.ensures.event c.args.memory.now
+    let device = c.access_device.ensures in
+    record {
+      makes = record {
+        ready = λ went. none_on_device m missing on;
+        step = λ went. device.made.step c.args.memory.now ∙ ap (λ b. left_by m (unplaced (having_found (found_next m) m) missing (data_wanted m) b)) (sym on);
+        fill = λ retry. absurd (device.went retry);
+      };
+      stops = (λ e. absurd (device.runs e), λ stop. absurd (cc));
+      quiet = unplaced_is_quiet (having_found (found_next m) m) missing (data_wanted m) (device_of m missing.address missing.kind);
+      event = λ went. ap (λ b. event_in (unplaced (having_found (found_next m) m) missing (data_wanted m) b)) on ∙ device.made.event c.args.memory.now;
+      told = device.made.told;
+      within = search rules;
+    }
 
-pub returns-in-Some-clause-event : goal.returns-in-Some-clause-event
-returns-in-Some-clause-event c = λ went. absurd (went refl)
-
-pub returns-in-None-clause-event : goal.returns-in-None-clause-event
-returns-in-None-clause-event c = λ went.
+pub returns-in-None-clause-made : goal.returns-in-None-clause-made
+returns-in-None-clause-made c =
     let m = machine_of c.args.guest.now c.args.memory.now in
     let missing = c.args.access.now in
     let off : device_of m missing.address missing.kind ≡ false = sym (c.has_on_device.ensures c.args.memory.now) ∙ c.if-has_on_device.false in
-    ap (λ b. event_in (unplaced (having_found (found_next m) m) missing (data_wanted m) b)) off
-    ∙ (rw c.entry_for.ensures.stays at c.raise_fault.ensures.event c.args.memory.now)
+    let fault = c.raise_fault.ensures in
+    record {
+      makes = rw (fault.stays, c.entry_for.ensures.stays) (record {
+        ready = λ went. sym c.entry_for.ensures.entry ∙ c.in-None.is;
+        step = λ went. (rw c.entry_for.ensures.stays at fault.made.step c.args.memory.now)
+            ∙ ap (λ b. left_by m (unplaced (having_found (found_next m) m) missing (data_wanted m) b)) (sym off);
+        fill = λ retry. absurd (fault.went retry);
+      });
+      stops = (λ e. absurd (fault.runs e), λ stop. absurd (cc));
+      quiet = unplaced_is_quiet (having_found (found_next m) m) missing (data_wanted m) (device_of m missing.address missing.kind);
+      event = λ went. ap (λ b. event_in (unplaced (having_found (found_next m) m) missing (data_wanted m) b)) off
+          ∙ (rw c.entry_for.ensures.stays at fault.made.event c.args.memory.now);
+      told = fault.made.told;
+      within = search rules;
+    }

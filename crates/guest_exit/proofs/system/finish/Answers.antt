@@ -14,4 +14,4 @@ returns-then-enters-clause-step c = λ before own same.
 pub returns-clause-step : goal.returns-clause-step
 returns-clause-step c =
     finish_stays c.args.guest.now c.tick.new.self c.args.memory.now c.args.nested (sym c.enters.ensures ∙ c.if-enters.false)
-    c.tick.ensures.keeps c.tick.ensures.platform
+    c.tick.ensures.goes.keeps c.tick.ensures.platform

@@ -22,10 +22,10 @@ remake_space-requires-clause-behind c =
 pub loop-i-preserved : goal.loop-i-preserved
 loop-i-preserved c = record {
   within = omega (arith, c.loop-i.invariant.within);
-  spaces = c.remake_space.ensures.spaces;
-  fits = fits_after c.args.saved.now.machine c.loop-i.pool c.remake_space.new.pool c.loop-i.memory c.remake_space.new.memory c.loop-i.invariant.fits c.remake_space.ensures.keeps;
-  keeps = keeps_both c.args.pool.now c.loop-i.pool c.remake_space.new.pool c.args.memory.now c.loop-i.memory c.remake_space.new.memory c.loop-i.invariant.keeps c.remake_space.ensures.keeps;
-  tidy = c.remake_space.ensures.tidy;
+  spaces = c.remake_space.ensures.remade.spaces;
+  fits = fits_after c.args.saved.now.machine c.loop-i.pool c.remake_space.new.pool c.loop-i.memory c.remake_space.new.memory c.loop-i.invariant.fits c.remake_space.ensures.remade.keeps;
+  keeps = keeps_both c.args.pool.now c.loop-i.pool c.remake_space.new.pool c.args.memory.now c.loop-i.memory c.remake_space.new.memory c.loop-i.invariant.keeps c.remake_space.ensures.remade.keeps;
+  tidy = c.remake_space.ensures.remade.tidy;
 }
 
 pub returns-clause-spaces : goal.returns-clause-spaces

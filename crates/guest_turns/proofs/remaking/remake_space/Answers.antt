@@ -78,10 +78,17 @@ loop-j-preserved c =
       tidy = c.fill.ensures.tidy;
     }
 
-pub returns-clause-spaces : goal.returns-clause-spaces
-returns-clause-spaces c =
+pub returns : goal.returns
+returns c =
     let m = c.args.saved.now.machine in
     let s = space_at m.spaces c.args.i in
     let all : c.loop-j.j ≡ length s.entries = omega (arith, c.loop-j-test.false, c.len-j-end.ensures no_space, c.loop-j.invariant.within) in
-    c.loop-j.invariant.spaces ∙ ap (λ k. partly k s (drop (c.args.i + 1) m.spaces)) all
-    ∙ fills_whole c.args.i m.spaces no_space c.requires.space
+    record {
+      remade = record {
+        spaces =
+            c.loop-j.invariant.spaces ∙ ap (λ k. partly k s (drop (c.args.i + 1) m.spaces)) all
+            ∙ fills_whole c.args.i m.spaces no_space c.requires.space;
+        keeps = c.loop-j.invariant.keeps;
+        tidy = c.loop-j.invariant.tidy;
+      };
+    }

@@ -1,7 +1,7 @@
 use Rattle.std.proofs.Common.{ℕ, ◌<◌, length, slice_index, subst, sym}
 use Rattle.arch_defs.specs.Memory.{block_size}
 use Rattle.arch_defs.specs.Ram.{SlicesLieIn}
-use Rattle.guest_exit.proofs.Pools.{blocks_held}
+use Rattle.hosted_steps.proofs.Followed.{blocks_held}
 use Rattle.guest_turns.proofs.Leaving.{own_blocks_small}
 use Rattle.guest_turns.proofs.retirement.vacate.Goals as goal
 

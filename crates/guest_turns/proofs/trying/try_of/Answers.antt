@@ -13,28 +13,27 @@ use Rattle.guest_turns.proofs.trying.try_of.Goals as goal
 -- an interrupt that the host takes
 pub returns-then-interrupt-clause-tried : goal.returns-then-interrupt-clause-tried
 returns-then-interrupt-clause-tried c =
-    let takes = c.interrupt.ensures.takes c.if-interrupt.true in (takes.step c.args.memory.now, takes.event c.args.memory.now)
+    let takes = c.interrupt.ensures.due.takes c.if-interrupt.true in (takes.step c.args.memory.now, takes.event c.args.memory.now)
 
-pub returns-then-interrupt-clause-keeps : goal.returns-then-interrupt-clause-keeps
-returns-then-interrupt-clause-keeps c = stays_by c.args.guest.now c.interrupt.new.guest c.interrupt.ensures.keeps
-
-pub returns-then-interrupt-clause-only : goal.returns-then-interrupt-clause-only
-returns-then-interrupt-clause-only c = only_none (changed_by c.args.guest.now) c.args.memory.now
-
-pub returns-then-interrupt-clause-hosted : goal.returns-then-interrupt-clause-hosted
-returns-then-interrupt-clause-hosted c =
-    let takes = c.interrupt.ensures.takes c.if-interrupt.true in
+pub returns-then-interrupt-clause-stays : goal.returns-then-interrupt-clause-stays
+returns-then-interrupt-clause-stays c =
     record {
-      placed = c.interrupt.ensures.placed c.args.memory.now c.requires.hosted.placed;
-      clock = omega (arith, c.requires.hosted.clock, takes.made, takes.clock);
-      current =
-          after_step (machine_of c.args.guest.now c.args.memory.now) (machine_of c.interrupt.new.guest c.args.memory.now) c.requires.hosted.current
-          (takes.step c.args.memory.now);
+      hosted =
+          let takes = c.interrupt.ensures.due.takes c.if-interrupt.true in
+          record {
+            placed = c.interrupt.ensures.placed c.args.memory.now c.requires.can.placed;
+            clock = omega (arith, c.requires.can.step.clock, takes.made, takes.clock);
+            current =
+                after_step (machine_of c.args.guest.now c.args.memory.now) (machine_of c.interrupt.new.guest c.args.memory.now) c.requires.can.current
+                (takes.step c.args.memory.now);
+          };
+      keeps = stays_by c.args.guest.now c.interrupt.new.guest c.interrupt.ensures.keeps;
+      only = only_none (changed_by c.args.guest.now) c.args.memory.now;
     }
 
 pub returns-then-interrupt-clause-account : goal.returns-then-interrupt-clause-account
 returns-then-interrupt-clause-account c =
-    let takes = c.interrupt.ensures.takes c.if-interrupt.true in
+    let takes = c.interrupt.ensures.due.takes c.if-interrupt.true in
     record {
       entries_grow = omega arith;
       entries_most = omega arith;
@@ -47,88 +46,86 @@ returns-then-interrupt-clause-account c =
 -- an entry of the hart
 pub enter_once-requires-clause-can : goal.enter_once-requires-clause-can
 enter_once-requires-clause-can c =
-    let same = c.interrupt.ensures.stays c.if-interrupt.false in
+    let same = c.interrupt.ensures.due.stays c.if-interrupt.false in
     record {
       running = c.interrupt.ensures.status;
-      placed = c.interrupt.ensures.placed c.args.memory.now c.requires.hosted.placed;
-      lasts = lasts_once (platform_of c.interrupt.new.guest) (rw same c.requires.hosted.current) (rw same (sym c.interrupt.ensures.which ∙ c.if-interrupt.false));
-      clock = rw same c.requires.hosted.clock;
-      steps = omega (arith, ap (λ guest. guest.steps) same, c.requires.steps);
+      placed = c.interrupt.ensures.placed c.args.memory.now c.requires.can.placed;
+      lasts = lasts_once (platform_of c.interrupt.new.guest) (rw same c.requires.can.current) (rw same (sym c.interrupt.ensures.due.which ∙ c.if-interrupt.false));
+      clock = rw same c.requires.can.step.clock;
+      steps = omega (arith, ap (λ guest. guest.steps) same, c.requires.can.step.steps);
     }
 
 pub returns-in-Made-clause-tried : goal.returns-in-Made-clause-tried
 returns-in-Made-clause-tried c =
-    let same = c.interrupt.ensures.stays c.if-interrupt.false in (
-      one_made (machine_of c.args.guest.now c.args.memory.now) (machine_of c.enter_once.new.guest c.enter_once.new.memory) (rw same at c.in-Made.ensures.run),
+    let same = c.interrupt.ensures.due.stays c.if-interrupt.false in (
+      one_made (machine_of c.args.guest.now c.args.memory.now) (machine_of c.enter_once.new.guest c.enter_once.new.memory) (rw same at c.in-Made.ensures.entered.run),
       rw same at c.in-Made.ensures.event,
     )
 
-pub returns-in-Made-clause-keeps : goal.returns-in-Made-clause-keeps
-returns-in-Made-clause-keeps c =
-    fixed_both c.args.guest.now c.interrupt.new.guest c.enter_once.new.guest (stays_by c.args.guest.now c.interrupt.new.guest c.interrupt.ensures.keeps)
-    (stays_by c.interrupt.new.guest c.enter_once.new.guest c.enter_once.ensures.keeps.keeps)
-
-pub returns-in-Made-clause-only : goal.returns-in-Made-clause-only
-returns-in-Made-clause-only c =
-    rw (c.interrupt.ensures.stays c.if-interrupt.false) at
-    (only_of_blocks c.interrupt.new.guest c.args.memory.now c.enter_once.new.memory c.enter_once.ensures.keeps.only)
-
-pub returns-in-Made-clause-hosted : goal.returns-in-Made-clause-hosted
-returns-in-Made-clause-hosted c =
-    let before : c.interrupt.new.guest.clock.time ≤ 2 ^ 62 + c.interrupt.new.guest.steps = rw (c.interrupt.ensures.stays c.if-interrupt.false) c.requires.hosted.clock in
+pub returns-in-Made-clause-stays : goal.returns-in-Made-clause-stays
+returns-in-Made-clause-stays c =
     record {
-      placed = c.enter_once.ensures.keeps.placed;
-      clock = omega (arith, before, c.in-Made.ensures.goes.clock, c.in-Made.ensures.goes.steps);
-      current = c.in-Made.ensures.goes.current;
+      hosted =
+          let before : c.interrupt.new.guest.clock.time ≤ 2 ^ 62 + c.interrupt.new.guest.steps = rw (c.interrupt.ensures.due.stays c.if-interrupt.false) c.requires.can.step.clock in
+          record {
+            placed = c.enter_once.ensures.entered.keeps.placed;
+            clock = omega (arith, before, c.in-Made.ensures.entered.goes.clock, c.in-Made.ensures.entered.goes.steps);
+            current = c.in-Made.ensures.entered.goes.current;
+          };
+      keeps =
+          fixed_both c.args.guest.now c.interrupt.new.guest c.enter_once.new.guest (stays_by c.args.guest.now c.interrupt.new.guest c.interrupt.ensures.keeps)
+          (stays_by c.interrupt.new.guest c.enter_once.new.guest c.enter_once.ensures.entered.keeps.keeps);
+      only =
+          rw (c.interrupt.ensures.due.stays c.if-interrupt.false) at
+          (only_of_blocks c.interrupt.new.guest c.args.memory.now c.enter_once.new.memory c.enter_once.ensures.entered.keeps.only);
     }
 
 pub returns-in-Made-clause-account : goal.returns-in-Made-clause-account
 returns-in-Made-clause-account c =
-    let same = c.interrupt.ensures.stays c.if-interrupt.false in
+    let same = c.interrupt.ensures.due.stays c.if-interrupt.false in
     entered_counts (machine_of c.args.guest.now c.args.memory.now) (machine_of c.enter_once.new.guest c.enter_once.new.memory) _ c.args.tally.now c.enter_once.new.tally
-    (rw same at c.in-Made.ensures.run) (rw same at c.in-Made.ensures.event) (rw same at c.in-Made.ensures.account)
-    (c.in-Made.ensures.goes.steps ∙ ap (λ (guest : Guest). guest.steps + 1) same)
+    (rw same at c.in-Made.ensures.entered.run) (rw same at c.in-Made.ensures.event) (rw same at c.in-Made.ensures.entered.account)
+    (c.in-Made.ensures.entered.goes.steps ∙ ap (λ (guest : Guest). guest.steps + 1) same)
 
 -- what the host makes of what the hart left
 pub returns-in-Left-clause-tried : goal.returns-in-Left-clause-tried
 returns-in-Left-clause-tried c =
-    let same = c.interrupt.ensures.stays c.if-interrupt.false in
+    let same = c.interrupt.ensures.due.stays c.if-interrupt.false in
     let between = machine_of c.enter_once.new.guest c.enter_once.new.memory in
-    let none : between ≡ machine_of c.args.guest.now c.args.memory.now = none_made (machine_of c.args.guest.now c.args.memory.now) between (rw same at c.in-Left.ensures.run) in
+    let none : between ≡ machine_of c.args.guest.now c.args.memory.now = none_made (machine_of c.args.guest.now c.args.memory.now) between (rw same at c.in-Left.ensures.entered.run) in
     rw c.made_of.ensures
     (subst (λ m. IsTried (made_by_host c.handle.result) m (machine_of c.handle.new.guest c.handle.new.memory)) none
-    (handled_tried between (machine_of c.handle.new.guest c.handle.new.memory) c.handle.result c.handle.ensures.does c.handle.ensures.event c.handle.ensures.waits))
+    (handled_tried between (machine_of c.handle.new.guest c.handle.new.memory) c.handle.result c.handle.ensures.does c.handle.ensures.tried.event c.handle.ensures.answers.waits))
 
-pub returns-in-Left-clause-keeps : goal.returns-in-Left-clause-keeps
-returns-in-Left-clause-keeps c =
-    fixed_both c.args.guest.now c.enter_once.new.guest c.handle.new.guest
-    (fixed_both c.args.guest.now c.interrupt.new.guest c.enter_once.new.guest (stays_by c.args.guest.now c.interrupt.new.guest c.interrupt.ensures.keeps)
-    (stays_by c.interrupt.new.guest c.enter_once.new.guest c.enter_once.ensures.keeps.keeps))
-    c.handle.ensures.keeps.keeps
-
-pub returns-in-Left-clause-only : goal.returns-in-Left-clause-only
-returns-in-Left-clause-only c =
-    let entered =
-    fixed_both c.args.guest.now c.interrupt.new.guest c.enter_once.new.guest (stays_by c.args.guest.now c.interrupt.new.guest c.interrupt.ensures.keeps)
-    (stays_by c.interrupt.new.guest c.enter_once.new.guest c.enter_once.ensures.keeps.keeps) in
-    let only = rw (c.interrupt.ensures.stays c.if-interrupt.false) at
-    (only_of_blocks c.interrupt.new.guest c.args.memory.now c.enter_once.new.memory c.enter_once.ensures.keeps.only) in
-    only_then c.args.guest.now c.enter_once.new.guest c.handle.new.guest c.args.memory.now c.enter_once.new.memory c.handle.new.memory entered only c.handle.ensures.keeps.only
-
-pub returns-in-Left-clause-hosted : goal.returns-in-Left-clause-hosted
-returns-in-Left-clause-hosted c = record {
-  placed = c.handle.ensures.keeps.placed;
-  clock = c.handle.ensures.told.clock;
-  current =
-      handed_current c.enter_once.new.guest c.handle.new.guest c.enter_once.new.memory c.handle.new.memory c.handle.result c.in-Left.ensures.goes.current
-      c.handle.ensures.does.step c.handle.ensures.does.fill;
-}
+pub returns-in-Left-clause-stays : goal.returns-in-Left-clause-stays
+returns-in-Left-clause-stays c =
+    record {
+      hosted = record {
+        placed = c.handle.ensures.keeps.placed;
+        clock = c.handle.ensures.told.clock;
+        current =
+            handed_current c.enter_once.new.guest c.handle.new.guest c.enter_once.new.memory c.handle.new.memory c.handle.result c.in-Left.ensures.entered.goes.current
+            c.handle.ensures.does.step c.handle.ensures.does.fill;
+      };
+      keeps =
+          fixed_both c.args.guest.now c.enter_once.new.guest c.handle.new.guest
+          (fixed_both c.args.guest.now c.interrupt.new.guest c.enter_once.new.guest (stays_by c.args.guest.now c.interrupt.new.guest c.interrupt.ensures.keeps)
+          (stays_by c.interrupt.new.guest c.enter_once.new.guest c.enter_once.ensures.entered.keeps.keeps))
+          c.handle.ensures.keeps.keeps;
+      only =
+          let entered =
+          fixed_both c.args.guest.now c.interrupt.new.guest c.enter_once.new.guest (stays_by c.args.guest.now c.interrupt.new.guest c.interrupt.ensures.keeps)
+          (stays_by c.interrupt.new.guest c.enter_once.new.guest c.enter_once.ensures.entered.keeps.keeps) in
+          let only = rw (c.interrupt.ensures.due.stays c.if-interrupt.false) at
+          (only_of_blocks c.interrupt.new.guest c.args.memory.now c.enter_once.new.memory c.enter_once.ensures.entered.keeps.only) in
+          only_then c.args.guest.now c.enter_once.new.guest c.handle.new.guest c.args.memory.now c.enter_once.new.memory c.handle.new.memory entered only c.handle.ensures.keeps.only;
+    }
 
 pub returns-in-Left-clause-account : goal.returns-in-Left-clause-account
 returns-in-Left-clause-account c =
-    let same = c.interrupt.ensures.stays c.if-interrupt.false in
+    let same = c.interrupt.ensures.due.stays c.if-interrupt.false in
     let m = machine_of c.args.guest.now c.args.memory.now in
     let between = machine_of c.enter_once.new.guest c.enter_once.new.memory in
     rw c.made_of.ensures
     (handled_counts m between (machine_of c.handle.new.guest c.handle.new.memory) c.handle.result c.args.tally.now c.enter_once.new.tally
-    (none_made m between (rw same at c.in-Left.ensures.run)) (rw same at c.in-Left.ensures.account) c.handle.ensures.told.made)
+    (none_made m between (rw same at c.in-Left.ensures.entered.run)) (rw same at c.in-Left.ensures.entered.account) c.handle.ensures.told.made)

@@ -1,4 +1,5 @@
-use Rattle.std.proofs.Common.{◌≡◌, ◌≢◌, ◌∙◌, true, false, refl, sym, rules, arith}
+use Rattle.std.proofs.Common.{◌≡◌, ◌≢◌, ◌+◌, ◌^◌, ◌<◌, ◌≤◌, ◌∙◌, true, false, refl, sym, rules, arith}
+use Rattle.std.proofs.lemmas.Grind.{common_steps}
 use Rattle.guest_settings.specs.declared.statuses.Status.{Status}
 use Rattle.guest_settings.specs.declared.statuses.Status.TheVariants.{Running, Waiting, Stopped}
 use Rattle.guest_exit.specs.View.{machine_of}
@@ -8,11 +9,25 @@ use Rattle.guest_turns.proofs.Turns.{accounted, accounted_then, budget_positive,
 use Rattle.guest_turns.proofs.turning.turn_of.Goals as goal
 
 -- while steps are left, so is a try, and the tries are within the bound
-pub advance-left-requires-clause-entries : goal.advance-left-requires-clause-entries
-advance-left-requires-clause-entries c =
+pub advance-left-requires-clause-room : goal.advance-left-requires-clause-room
+advance-left-requires-clause-room c =
+    let is = c.loop-left.invariant in
     let some = budget_positive (machine_of c.loop-left.guest c.loop-left.memory) c.loop-left.left c.loop-left-test.true in
     let most = budget_within (machine_of c.args.guest.now c.args.memory.now) c.args.k in
-    omega (arith, c.loop-left.invariant.account.entries_most, some, most, c.requires.room.entries)
+    record {
+      entries = omega (arith, is.account.entries_most, some, most, c.requires.room.entries);
+      taken = omega (arith, is.account.taken_most, is.made, is.began, c.requires.room.taken);
+    }
+
+pub advance-left-requires-clause-can : goal.advance-left-requires-clause-can
+advance-left-requires-clause-can c =
+    let is = c.loop-left.invariant in
+    record {
+      running = grind (arith, common_steps);
+      hosted = is.hosted;
+      some = omega (arith, c.loop-left-test.true);
+      steps = omega (arith, is.made, is.began, c.requires.steps);
+    }
 
 pub returns-then-ne-clause-account : goal.returns-then-ne-clause-account
 returns-then-ne-clause-account c =

@@ -45,7 +45,7 @@ invariant_of-self c =
     let from = ap (λ blocks. slice_index blocks c.args.block) c.blocks-2.ensures.value in
     let free = c.exchange.ensures ∙ ap (λ b. set (set host.free c.args.to false) b true) from in
     still_hosted host.guests.items host.retired host.free host.memory c.self.invariant c.args.g inside active c.has_each_block.ensures c.index_mut-guest.result.now c.index_mut-guest.ensures.value c.args.block c.args.to index flag
-    c.shift.new.guest c.shift.new.memory c.exchange.new.self c.shift.ensures.hosted c.shift.ensures.part c.shift.ensures.machine c.shift.ensures.zeros c.shift.ensures.only free
+    c.shift.new.guest c.shift.new.memory c.exchange.new.self c.shift.ensures.shifted.hosted c.shift.ensures.shifted.part c.shift.ensures.shifted.machine c.shift.ensures.shifted.zeros c.shift.ensures.shifted.only free
 
 pub returns : goal.returns
 returns c =
@@ -58,4 +58,4 @@ returns c =
     let from = ap (λ blocks. slice_index blocks c.args.block) c.blocks-2.ensures.value in
     let free = c.exchange.ensures ∙ ap (λ b. set (set host.free c.args.to false) b true) from in
     has_moved host.guests.items host.retired host.free host.memory c.self.invariant c.args.g inside active c.has_each_block.ensures c.index_mut-guest.result.now c.index_mut-guest.ensures.value c.args.block c.args.to index flag
-    c.shift.new.guest c.shift.new.memory c.exchange.new.self c.shift.ensures.hosted c.shift.ensures.part c.shift.ensures.machine c.shift.ensures.zeros c.shift.ensures.only free c.args.self.now c.self.view_is
+    c.shift.new.guest c.shift.new.memory c.exchange.new.self c.shift.ensures.shifted.hosted c.shift.ensures.shifted.part c.shift.ensures.shifted.machine c.shift.ensures.shifted.zeros c.shift.ensures.shifted.only free c.args.self.now c.self.view_is

@@ -19,14 +19,14 @@ invariant_of-self c =
     let host = c.self.inside in
     let inside = among host.guests.items host.memory host.free host.retired _ c.args.g c.self.view_is c.requires.guest in
     (turned host.guests.items host.retired host.free host.memory c.args.g c.args.k c.index_mut-guest.result.now c.turn_of.new.guest c.turn_of.new.memory
-    c.self.invariant inside (active_of host.guests.items host.memory host.free host.retired _ c.args.g c.self.view_is c.requires.active) c.index_mut-guest.ensures.value c.turn_of.ensures.run c.turn_of.ensures.hosted).hosted
+    c.self.invariant inside (active_of host.guests.items host.memory host.free host.retired _ c.args.g c.self.view_is c.requires.active) c.index_mut-guest.ensures.value c.turn_of.ensures.run c.turn_of.ensures.run.hosted).hosted
 
 pub returns-clause-machines : goal.returns-clause-machines
 returns-clause-machines c =
     let host = c.self.inside in
     let inside = among host.guests.items host.memory host.free host.retired _ c.args.g c.self.view_is c.requires.guest in
     (turned host.guests.items host.retired host.free host.memory c.args.g c.args.k c.index_mut-guest.result.now c.turn_of.new.guest c.turn_of.new.memory
-    c.self.invariant inside (active_of host.guests.items host.memory host.free host.retired _ c.args.g c.self.view_is c.requires.active) c.index_mut-guest.ensures.value c.turn_of.ensures.run c.turn_of.ensures.hosted).machines
+    c.self.invariant inside (active_of host.guests.items host.memory host.free host.retired _ c.args.g c.self.view_is c.requires.active) c.index_mut-guest.ensures.value c.turn_of.ensures.run c.turn_of.ensures.run.hosted).machines
     ∙ ap (λ host. updated c.args.g (λ m. run m c.args.k) host.machines) c.self.view_is
 
 pub returns-clause-shares : goal.returns-clause-shares
@@ -35,7 +35,7 @@ returns-clause-shares c =
     let inside = among host.guests.items host.memory host.free host.retired _ c.args.g c.self.view_is c.requires.guest in
     record {
       parts = (turned host.guests.items host.retired host.free host.memory c.args.g c.args.k c.index_mut-guest.result.now c.turn_of.new.guest c.turn_of.new.memory
-          c.self.invariant inside (active_of host.guests.items host.memory host.free host.retired _ c.args.g c.self.view_is c.requires.active) c.index_mut-guest.ensures.value c.turn_of.ensures.run c.turn_of.ensures.hosted).parts
+          c.self.invariant inside (active_of host.guests.items host.memory host.free host.retired _ c.args.g c.self.view_is c.requires.active) c.index_mut-guest.ensures.value c.turn_of.ensures.run c.turn_of.ensures.run.hosted).parts
           ∙ ap (λ host. host.parts) c.self.view_is;
       free = ap (λ host. host.free) c.self.view_is;
       retired = ap (λ host. host.retired) c.self.view_is;
@@ -56,14 +56,14 @@ returns-clause-made c =
     let inside = among host.guests.items host.memory host.free host.retired _ c.args.g c.self.view_is c.requires.guest in
     let before = host_machine host.guests.items host.memory host.free host.retired _ c.args.g c.index_mut-guest.result.now c.self.view_is inside c.index_mut-guest.ensures.value in
     let after = written_machine host.guests.items c.turn_of.new.memory c.args.g c.turn_of.new.guest inside in
-    ap (λ m. m.platform.steps + c.turn_of.result) before ∙ c.turn_of.ensures.made ∙ ap (λ m. m.platform.steps) (sym after)
+    ap (λ m. m.platform.steps + c.turn_of.result) before ∙ c.turn_of.ensures.counts.steps ∙ ap (λ m. m.platform.steps) (sym after)
 
 pub returns-clause-fewer : goal.returns-clause-fewer
 returns-clause-fewer c = λ fewer still.
     let host = c.self.inside in
     let inside = among host.guests.items host.memory host.free host.retired _ c.args.g c.self.view_is c.requires.guest in
     let after = written_machine host.guests.items c.turn_of.new.memory c.args.g c.turn_of.new.guest inside in
-    c.turn_of.ensures.fewer fewer (ap (λ m. m.platform.status) (sym after) ∙ still)
+    c.turn_of.ensures.counts.fewer fewer (ap (λ m. m.platform.status) (sym after) ∙ still)
 
 pub returns-clause-room : goal.returns-clause-room
 returns-clause-room c =
