@@ -1,7 +1,7 @@
 -- A front that is compared with the bytes that a machine was read from.
 use Rattle.std.specs.Prelude.{bytes_eq}
 use Rattle.std.specs.Bool.{Decides}
-use Rattle.std.proofs.Common.{◌≡◌, ℕ, ◌-◌, Bool, true, false, cond, List, [], ◌∷◌, length, take, drop, refl, ap, ◌∙◌, sym, arith}
+use Rattle.std.proofs.Common.{◌≡◌, ◌↔◌, ℕ, ◌-◌, Bool, true, false, cond, List, [], ◌∷◌, length, take, drop, refl, ap, ◌∙◌, sym, arith}
 use Rattle.std.proofs.lemmas.Bool.{false≢true}
 use Rattle.std.proofs.lemmas.Slice.Eq.{bytes_eq-Decides}
 use Rattle.guest_save.proofs.ReadMachines.{ram_begins}
@@ -37,26 +37,21 @@ same_is expected text = by (bytes_eq expected text) (bytes_eq-Decides expected t
     by true tells said = tells.0 refl
     by false tells said = absurd cc
 
-pub differs_is : (expected text : List ℕ) (n : ℕ) → Differs n ≡ verdict_of expected text → expected ≡ text → ⊥
-differs_is expected text n = by (bytes_eq expected text) (bytes_eq-Decides expected text)
+same_said : (expected text : List ℕ) → expected ≡ text → Same ≡ verdict_of expected text
+same_said expected text = by (bytes_eq expected text) (bytes_eq-Decides expected text)
   where
-    by : (b : Bool) → Decides b (expected ≡ text) → Differs n ≡ cond b Same (Differs (agreeing expected text)) → expected ≡ text → ⊥
-    by true tells said = absurd cc
-    by false tells said = λ same. absurd (false≢true (tells.1 same))
+    by : (b : Bool) → Decides b (expected ≡ text) → expected ≡ text → Same ≡ cond b Same (Differs (agreeing expected text))
+    by true tells same = refl
+    by false tells same = absurd (false≢true (tells.1 same))
 
--- what the comparison of a front says of a whole form
-pub record TellsForm (version : Version) (m : Machine) (bytes : List ℕ) (found : Verdict) : Type 0 where
-  pub same : Same ≡ found → form_of version m ≡ bytes
-  pub differs : (n : ℕ) → Differs n ≡ found → form_of version m ≡ bytes → ⊥
-
+-- the comparison of a front tells of the whole form
 pub tells_form : (version : Version) (m : Machine) (bytes : List ℕ) (k : ℕ) (first last : Comparison) (found : Verdict) → m ≡ machine_by version bytes → k ≡ length bytes - length m.ram
     → first ≡ record { expected = take k bytes; place = 0; differs = false } → Appends Saw first last (front_form version m) → last.expected ≡ first.expected
-    → ((seen : List ℕ) → Saw last seen → found ≡ verdict_of last.expected seen) → TellsForm version m bytes found
+    → ((seen : List ℕ) → Saw last seen → found ≡ verdict_of last.expected seen) → (found ≡ Same) ↔ (form_of version m ≡ bytes)
 tells_form version m bytes k first last found read place new put stays says =
     let begins = ram_begins version bytes m read in
     let decides = front_decides version m bytes k (omega (arith, place)) (begins.1 ∙ ap (λ (n : ℕ). drop n bytes) (sym place)) in
-    let is = says_of_text first last (take k bytes) (front_form version m) found new put stays says in
-    record {
-      same = λ same. decides.0 (sym (same_is (take k bytes) (front_form version m) (same ∙ is)));
-      differs = λ n differs whole. differs_is (take k bytes) (front_form version m) n (differs ∙ is) (sym (decides.1 whole));
-    }
+    let is = says_of_text first last (take k bytes) (front_form version m) found new put stays says in (
+      λ same. decides.0 (sym (same_is (take k bytes) (front_form version m) (sym same ∙ is))),
+      λ whole. is ∙ sym (same_said (take k bytes) (front_form version m) (sym (decides.1 whole))),
+    )

@@ -1,6 +1,7 @@
 // The parts of a form that have counts: inputs, entries and spaces.
 
-ghost use Rattle.std.specs.Prelude.{◌≡◌, ◌≤◌, IfOk};
+ghost use Rattle.std.specs.Prelude.{◌≡◌, ◌<◌, ◌≤◌, IfOk, length};
+ghost use Rattle.std.specs.List.{slice_index_or};
 ghost use Rattle.guest_save.specs.Forms.{flags_of};
 ghost use Rattle.guest_save.specs.Numbers.{leading_numbers};
 ghost use Rattle.guest_save.specs.Reading.{after_space, after_spaces, entries_in, entry_count, entry_from_numbers, input_of, leading_inputs, space_in, leading_spaces};
@@ -25,6 +26,16 @@ impl Model for SavedSpace {
     ghost Value = { Space };
 
     ghost view = { λ s. record { key = s.key; entries = s.entries.items } };
+}
+
+impl SavedSpace {
+    /// An entry, counted from the oldest.
+    pub fn entry(&self, place: u64) -> Entry
+        requires { place < length self.now.entries }
+        ensures { result ≡ slice_index_or self.now.entries place result }
+    {
+        self.entries[place as usize]
+    }
 }
 
 // The input that bytes begin with; zeros past their end.

@@ -76,8 +76,7 @@ impl Snapshot for MachineParts {
     }
 
     fn entry(&self, space: u64, place: u64) -> Entry {
-        let found = &self.spaces[space as usize];
-        found.entries[place as usize]
+        self.spaces[space as usize].entry(place)
     }
 
     fn first(&self) -> &[FirstEntry] {

@@ -11,6 +11,7 @@ ghost use Rattle.guest_save.specs.Savable.{IsSavable};
 ghost use Rattle.guest_save.specs.Saves.{saved_form, saved_machine_in};
 ghost use Rattle.guest_save.specs.Tests.{IsRead};
 ghost use Rattle.guest_save.specs.Versions.{version_in};
+ghost use Rattle.replay.specs.declared.comparisons.Verdict.TheVariants.{Same};
 
 use crate::headers::Header;
 use crate::machine_parts::{MachineParts, machine_by};
@@ -137,6 +138,16 @@ impl Snapshot for Saved {
     }
 }
 
+// Whether a comparison has found no difference.
+fn is_same(verdict: Verdict) -> bool
+    ensures { IsTrue result ↔ (verdict ≡ Same) }
+{
+    match verdict {
+        Verdict::Same => true,
+        Verdict::Differs(_) => false,
+    }
+}
+
 // Whether the form of a machine that was read is the bytes that it was read from. RAM is what is left of
 // them, so it is not compared.
 fn has_form(version: Version, parts: &MachineParts, bytes: &[u8]) -> bool
@@ -146,7 +157,7 @@ fn has_form(version: Version, parts: &MachineParts, bytes: &[u8]) -> bool
     let front = bytes.len() - parts.ram.len();
     let mut compare = Compare::new(&bytes[..front]);
     match put_front(version, parts, &mut compare) {
-        Ok(()) => matches!(compare.verdict(), Verdict::Same),
+        Ok(()) => is_same(compare.verdict()),
         Err(_) => false,
     }
 }
