@@ -1,5 +1,5 @@
 -- Pairs one after the other.
-use Rattle.std.proofs.Common.{◌≡◌, ℕ, ◌+◌, ◌<◌, ◌≤◌, List, [], ◌∷◌, ◌++◌, length, drop, get_or, Option, Some, None, option_map, refl, ap, sym, append_assoc, append-nil}
+use Rattle.std.proofs.Common.{◌≡◌, ℕ, ◌+◌, ◌<◌, ◌≤◌, List, [], ◌∷◌, ◌++◌, length, drop, get_or, Option, Some, None, option_map, refl, ap, sym, ◌∙◌, append_assoc, append-nil}
 use Rattle.std.proofs.lemmas.List.{drop_all}
 use Rattle.toml.specs.Data.{Data, Items, item}
 use Rattle.toml.specs.View.{view, items_view}
@@ -23,9 +23,10 @@ stops_at_item : (a b : ℕ) (value : Data) (rest : Items) → pair_within a b va
 unfolding pairs_within
 stops_at_item a b value rest e = rw e
 
-pub pair_more : (a b : ℕ) (all done : List (ℕ × ℕ)) (values : List Value) (i : ℕ) (d : Value) (pair : ℕ × ℕ) → i < length values → pair_within a b (view (get_or values i d)) ≡ Some pair
-    → goes_on a b done (items_view (drop i values)) ≡ goes_on a b (done ++ pair ∷ []) (items_view (drop (i + 1) values))
-pair_more a b all done values i d pair within e = rw (items_view-drop values i d within) (goes_on_item a b done _ _ pair e)
+pub pair_more : (a b : ℕ) (all done : List (ℕ × ℕ)) (values : List Value) (i : ℕ) (value : Value) (pair : ℕ × ℕ) → i < length values → value ≡ get_or values i value
+    → pair_within a b (view value) ≡ Some pair → all ≡ done ++ pair ∷ [] → goes_on a b done (items_view (drop i values)) ≡ goes_on a b all (items_view (drop (i + 1) values))
+pair_more a b all done values i value pair within same e push =
+    rw push (rw (items_view-drop values i value within) (goes_on_item a b done _ _ pair (ap (λ v. pair_within a b (view v)) (sym same) ∙ e)))
 
 pub no_pair : (a b : ℕ) (done : List (ℕ × ℕ)) (values : List Value) (i : ℕ) (d : Value) → i < length values → pair_within a b (view (get_or values i d)) ≡ None
     → goes_on a b done (items_view (drop i values)) ≡ None
@@ -34,5 +35,3 @@ no_pair a b done values i d within e = rw (items_view-drop values i d within) (a
 pub all_pairs : (a b : ℕ) (done : List (ℕ × ℕ)) (values : List Value) (i : ℕ) → length values ≤ i → goes_on a b done (items_view (drop i values)) ≡ Some done
 unfolding pairs_within
 all_pairs a b done values i past = rw (drop_all i values past) (ap (λ all. Some all) (append-nil done))
-
-pub ruleset pairs = (pair_more, no_pair)

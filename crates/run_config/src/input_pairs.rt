@@ -28,7 +28,7 @@ fn input_in(value: &Value) -> Option<(u64, u8)>
 }
 
 // The inputs that all of these values are.
-#[tactic(auto, using(crate::proofs::Pairing::pairs))]
+#[tactic(auto, using(crate::proofs::Pairing::no_pair))]
 fn all_inputs(alloc: Global, values: &[Value]) -> Result<Option<Vec<(u64, u8)>>, AllocError>
     ensures { IfOk result (λ o. option_map (λ v. v.items) o
         ≡ pairs_within (2 ^ 62 - 1) 255 (items_view values.now)) }

@@ -46,7 +46,7 @@ fn turn_in(guests: u32, value: &Value) -> Option<(u32, u64)>
 }
 
 // The turns that all of these values are.
-#[tactic(auto, using(crate::proofs::Pairing::pairs))]
+#[tactic(auto, using(crate::proofs::Pairing::no_pair))]
 fn all_turns(
     alloc: Global,
     guests: u32,
