@@ -1,5 +1,5 @@
 -- A talk, transfer by transfer.
-use Rattle.std.proofs.Common.{◌≡◌, ◌∙◌, ℕ, List, [], ◌∷◌, ◌++◌, drop, take, refl, ap, sym, subst, Option, Some, None, Result, Ok, Err, IfOk, OnOk, IsErrOf, is_ok, option_map, Bool, true, false, not, if◌then◌else◌}
+use Rattle.std.proofs.Common.{◌≡◌, ◌∙◌, ℕ, List, [], ◌∷◌, ◌++◌, drop, take, refl, ap, sym, subst, Option, Some, None, Result, Ok, Err, IsErrOf, option_map, Bool, true, false, not, if◌then◌else◌}
 use Rattle.std.proofs.lemmas.List.{append_assoc, append-nil, take-append-drop}
 use Rattle.std.specs.Io.KnownBytes.{Consumes, IsAtEnd}
 use Rattle.gdb_packets.specs.declared.messages.Message.{Message}
@@ -15,7 +15,7 @@ use Rattle.outside.specs.declared.connections.Transfer.TheVariants.{Came, Sent}
 use Rattle.outside.proofs.Pieces.{appends_then}
 use Rattle.outside.proofs.Transfers.{came_append, sent_append}
 use Rattle.gdb_stub.specs.Sessions.{Recording}
-use Rattle.gdb_stub.specs.Talks.{after_message, all_said, is_last_message, is_whole, said_to, said_to_all, AreSent, HasGoneOn, HasCome, HasSaid, HasTalked, IsFront, IsPart, IsPrompt, TalkedTo, TalkState}
+use Rattle.gdb_stub.specs.Talks.{after_message, all_said, is_last_message, is_whole, said_to, said_to_all, AreSent, HasCome, HasGoneOn, HasHeard, HasSaid, HasTalked, IsFront, IsPart, IsPrompt, OnlySends, TalkedTo, TalkState}
 use Rattle.gdb_stub.specs.declared.talks.TalkEnd.{TalkEnd}
 use Rattle.gdb_stub.specs.declared.talks.TalkEnd.TheVariants.{ReadFault, WriteFault, NoMemory}
 
@@ -201,23 +201,20 @@ module _ {C : Type 0} (K : connections.Ghosts C) (r : Recording) (t : TalkState)
       }
 
   heard_by : (old new : C) (come : List ℕ) (received : Received) (after : TalkState) (result : Result Bool TalkEnd)
-      → message_in come ≡ Some received → IfOk result (λ stays. stays ≡ not (is_last_message received.message))
-      → OnOk result (after ≡ after_message r t received.message) → ¬ IsErrOf result ReadFault
-      → HasSaid K (is_ok result) (said_to r t received.message) old new
+      → message_in come ≡ Some received → HasHeard K r t after received.message result old new → ¬ IsErrOf result ReadFault
       → HasGoneOn K r t after come (drop received.length come) result old new
-  heard_by old new come received after (Ok true) is last goes no_read says = heard_stays old new come received after is (not_true _ last) goes says
-  heard_by old new come received after (Ok false) is last goes no_read says = heard_last old new come received is (not_false _ last) says
-  heard_by old new come received after (Err ReadFault) is last goes no_read says = absurd (no_read refl)
-  heard_by old new come received after (Err WriteFault) is last goes no_read says = heard_cut old new come received WriteFault is refl says
-  heard_by old new come received after (Err NoMemory) is last goes no_read says = heard_cut old new come received NoMemory is refl says
+  heard_by old new come received after (Ok true) is hears no_read = heard_stays old new come received after is (not_true _ hears.last) hears.after hears.said
+  heard_by old new come received after (Ok false) is hears no_read = heard_last old new come received is (not_false _ hears.last) hears.said
+  heard_by old new come received after (Err ReadFault) is hears no_read = absurd (no_read refl)
+  heard_by old new come received after (Err WriteFault) is hears no_read = heard_cut old new come received WriteFault is refl hears.said
+  heard_by old new come received after (Err NoMemory) is hears no_read = heard_cut old new come received NoMemory is refl hears.said
 
   -- so what answering the next message leaves of the talk
   pub heard : (old new : C) (come come' : List ℕ) (message : Message) (after : TalkState) (result : Result Bool TalkEnd)
       → Some message ≡ option_map (λ (received : Received). received.message) (message_in come) → come' ≡ behind (message_in come) come
-      → IfOk result (λ stays. stays ≡ not (is_last_message message)) → OnOk result (after ≡ after_message r t message) → ¬ IsErrOf result ReadFault
-      → HasSaid K (is_ok result) (said_to r t message) old new
+      → HasHeard K r t after message result old new → OnlySends K result old new
       → HasGoneOn K r t after come come' result old new
-  heard old new come come' message after result found rest last goes no_read says = by (message_in come) refl found rest
+  heard old new come come' message after result found rest hears sends = by (message_in come) refl found rest
     where
       by : (o : Option Received) → message_in come ≡ o → Some message ≡ option_map (λ (received : Received). received.message) o → come' ≡ behind o come
           → HasGoneOn K r t after come come' result old new
@@ -226,9 +223,7 @@ module _ {C : Type 0} (K : connections.Ghosts C) (r : Recording) (t : TalkState)
           let same : message ≡ received.message = cc in
           subst (λ (bytes : List ℕ). HasGoneOn K r t after come bytes result old new) (sym rest)
           (heard_by old new come received after result is
-          (subst (λ (m : Message). IfOk result (λ stays. stays ≡ not (is_last_message m))) same last)
-          (subst (λ (m : Message). OnOk result (after ≡ after_message r t m)) same goes) no_read
-          (subst (λ (m : Message). HasSaid K (is_ok result) (said_to r t m) old new) same says))
+          (subst (λ (m : Message). HasHeard K r t after m result old new) same hears) sends.no_read)
 
   -- nothing is to be said to bytes that hold no message
   none_said : (come : List ℕ) → message_in come ≡ None → all_said r t come ≡ []

@@ -1,5 +1,5 @@
 -- What a stub says to what gdb says (manual of gdb, "Overview" of the remote protocol).
-use Rattle.std.specs.Prelude.{◌≡◌, ℕ, ⊤, Bool, true, false, List, [], ◌∷◌, ◌++◌, codes, Option, Some, None, Result, Ok, Err, if◌then◌else◌}
+use Rattle.std.specs.Prelude.{◌≡◌, ◌≤◌, ℕ, ⊤, Bool, true, false, List, [], ◌∷◌, ◌++◌, codes, is_ok, not, Option, Some, None, Result, Ok, Err, IfOk, IsErrOf, OnOk, if◌then◌else◌}
 use Rattle.std.specs.Io.KnownBytes.{Consumes, IsAtEnd}
 use Rattle.gdb_commands.specs.declared.commands.Command.{Command}
 use Rattle.gdb_commands.specs.declared.commands.Command.TheVariants as command
@@ -9,6 +9,7 @@ use Rattle.gdb_packets.specs.declared.messages.Message.TheVariants.{Packet, BadS
 use Rattle.gdb_packets.specs.Frames.{framed}
 use Rattle.gdb_packets.specs.Streams.{messages_in}
 use Rattle.outside.specs.Connections.{came_in, sent_in}
+use Rattle.outside.specs.Faults.{Rose}
 use Rattle.outside.specs.Pieces.{Appends}
 use Rattle.outside.specs.declared.connections.Connection as connections
 use Rattle.outside.specs.declared.connections.Transfer.{Transfer}
@@ -126,6 +127,29 @@ pub record HasSaid {C : Type 0} (K : connections.Ghosts C) (all : Bool) (text : 
   pub kept : K.coming new ≡ K.coming old
   pub silent : AreSent transfers
   pub said : IsPart all (sent_in transfers) text
+
+-- a message has been answered: what was said to it, what it leaves, and whether gdb stays
+pub record HasHeard {C : Type 0} (K : connections.Ghosts C) (r : Recording) (t t' : TalkState)
+    (message : Message) (result : Result Bool TalkEnd) (old new : C) : Type 0 where
+  pub said : HasSaid K (is_ok result) (said_to r t message) old new
+  pub after : OnOk result (t' ≡ after_message r t message)
+  pub last : IfOk result (λ stays. stays ≡ not (is_last_message message))
+
+-- why a read or a write failed, by the counts of faults, which never fall
+pub record HasCauses {C A : Type 0} (K : connections.Ghosts C) (result : Result A TalkEnd) (old new : C)
+    : Type 0 where
+  pub read : IsErrOf result ReadFault → Rose (K.read_faults old) (K.read_faults new)
+  pub read_count : K.read_faults old ≤ K.read_faults new
+  pub write : IsErrOf result WriteFault → Rose (K.write_faults old) (K.write_faults new)
+  pub write_count : K.write_faults old ≤ K.write_faults new
+
+-- the same where nothing was read
+pub record OnlySends {C A : Type 0} (K : connections.Ghosts C) (result : Result A TalkEnd) (old new : C)
+    : Type 0 where
+  pub no_read : ¬ IsErrOf result ReadFault
+  pub read_count : K.read_faults new ≡ K.read_faults old
+  pub write : IsErrOf result WriteFault → Rose (K.write_faults old) (K.write_faults new)
+  pub write_count : K.write_faults old ≤ K.write_faults new
 
 -- what a read leaves of a connection and of the bytes that have come: more of these, or the end
 abbrev pub HasCome : {C : Type 0} → connections.Ghosts C → List ℕ → List ℕ → Result Bool TalkEnd

@@ -1,10 +1,10 @@
 // The talk with gdb, on a connection.
 
-ghost use Rattle.std.specs.Prelude.{◌≡◌, ◌≤◌, ◌++◌, [], not, codes, is_ok, IfOk, IsErrOf, OnOk};
-ghost use Rattle.gdb_commands.specs.Commands.{command_in};
+ghost use Rattle.std.specs.Prelude.{◌≡◌, ◌≤◌, ◌++◌, [], codes, IfOk, IsErrOf, OnOk};
+ghost use Rattle.gdb_packets.specs.declared.messages.Message.TheVariants.{Packet};
 ghost use Rattle.outside.specs.Faults.{Rose};
 ghost use Rattle.gdb_stub.specs.Sessions.{recording_of, state_after, session_state, ShowsPosition, KeepsSession};
-ghost use Rattle.gdb_stub.specs.Talks.{after_command, after_message, early_end, is_last_message, is_kill, is_last, packet_for, said_to, said_to_command, talk_of, HasGoneOn, HasCome, HasSaid, HasTalked};
+ghost use Rattle.gdb_stub.specs.Talks.{early_end, is_kill, is_last, packet_for, talk_of, HasCauses, HasCome, HasGoneOn, HasHeard, HasTalked, OnlySends};
 ghost use Rattle.gdb_stub.specs.declared.talks.TalkEnd.TheVariants as talk_end;
 
 use crate::sessions::Session;
@@ -141,18 +141,11 @@ impl<R: Runner + Drop> Talk<R> {
     ) -> Result<bool, TalkEnd>
         requires held { ShowsPosition R.Runner self.old.session }
         ensures keeps { KeepsSession R.Runner self.old.session self.new.session }
-        ensures said { HasSaid C.Connection (is_ok result) (said_to_command
-            (recording_of R.Runner self.old.session) (talk_of self.old) (command_in payload.now))
+        ensures heard { HasHeard C.Connection (recording_of R.Runner self.old.session)
+            (talk_of self.old) (talk_of self.new) (Packet payload.now) result
             connection.old connection.new }
-        ensures talk { OnOk result (talk_of self.new ≡ after_command
-            (recording_of R.Runner self.old.session) (talk_of self.old) (command_in payload.now)) }
-        ensures last { IfOk result (λ stays. stays ≡ not (is_last (command_in payload.now))) }
         ensures come { self.new.come ≡ self.old.come }
-        ensures no_read { ¬ IsErrOf result TalkEnd.ReadFault }
-        ensures write_cause { IsErrOf result TalkEnd.WriteFault
-            → Rose (C.write_faults connection.old) (C.write_faults connection.new) }
-        ensures write_count { C.write_faults connection.old ≤ C.write_faults connection.new }
-        ensures read { C.read_faults connection.new ≡ C.read_faults connection.old }
+        ensures causes { OnlySends C.Connection result connection.old connection.new }
     {
         let command = command_of(alloc, payload)?;
         self.sent = self.obey(alloc, command)?;
@@ -171,18 +164,10 @@ impl<R: Runner + Drop> Talk<R> {
     ) -> Result<bool, TalkEnd>
         requires held { ShowsPosition R.Runner self.old.session }
         ensures keeps { KeepsSession R.Runner self.old.session self.new.session }
-        ensures said { HasSaid C.Connection (is_ok result)
-            (said_to (recording_of R.Runner self.old.session) (talk_of self.old) message)
-            connection.old connection.new }
-        ensures talk { OnOk result (talk_of self.new ≡ after_message
-            (recording_of R.Runner self.old.session) (talk_of self.old) message) }
-        ensures last { IfOk result (λ stays. stays ≡ not (is_last_message message)) }
+        ensures heard { HasHeard C.Connection (recording_of R.Runner self.old.session)
+            (talk_of self.old) (talk_of self.new) message result connection.old connection.new }
         ensures come { self.new.come ≡ self.old.come }
-        ensures no_read { ¬ IsErrOf result TalkEnd.ReadFault }
-        ensures write_cause { IsErrOf result TalkEnd.WriteFault
-            → Rose (C.write_faults connection.old) (C.write_faults connection.new) }
-        ensures write_count { C.write_faults connection.old ≤ C.write_faults connection.new }
-        ensures read { C.read_faults connection.new ≡ C.read_faults connection.old }
+        ensures causes { OnlySends C.Connection result connection.old connection.new }
     {
         match message {
             Message::Packet(payload) => self.hear_packet(alloc, payload.as_slice(), connection),
@@ -206,12 +191,7 @@ impl<R: Runner + Drop> Talk<R> {
         ensures talked { HasGoneOn C.Connection (recording_of R.Runner self.old.session)
             (talk_of self.old) (talk_of self.new) self.old.come self.new.come result
             connection.old connection.new }
-        ensures read_cause { IsErrOf result TalkEnd.ReadFault
-            → Rose (C.read_faults connection.old) (C.read_faults connection.new) }
-        ensures read_count { C.read_faults connection.old ≤ C.read_faults connection.new }
-        ensures write_cause { IsErrOf result TalkEnd.WriteFault
-            → Rose (C.write_faults connection.old) (C.write_faults connection.new) }
-        ensures write_count { C.write_faults connection.old ≤ C.write_faults connection.new }
+        ensures causes { HasCauses C.Connection result connection.old connection.new }
     {
         if self.come.len() > MOST {
             return Err(TalkEnd::NoMemory);
@@ -231,12 +211,7 @@ impl<R: Runner + Drop> Talk<R> {
         ensures keeps { KeepsSession R.Runner self.old.session self.new.session }
         ensures talked { HasTalked C.Connection (recording_of R.Runner self.old.session)
             (talk_of self.old) self.old.come (early_end result) connection.old connection.new }
-        ensures read_cause { IsErrOf result TalkEnd.ReadFault
-            → Rose (C.read_faults connection.old) (C.read_faults connection.new) }
-        ensures read_count { C.read_faults connection.old ≤ C.read_faults connection.new }
-        ensures write_cause { IsErrOf result TalkEnd.WriteFault
-            → Rose (C.write_faults connection.old) (C.write_faults connection.new) }
-        ensures write_count { C.write_faults connection.old ≤ C.write_faults connection.new }
+        ensures causes { HasCauses C.Connection result connection.old connection.new }
     {
         for _ in 0..u64::MAX {
             match self.go_on(alloc, connection) {

@@ -28,8 +28,8 @@ recording_by guest description = record {
 }
 
 -- how the talk went about the guest that a command names, from the start of its run up to this end
-abbrev pub TalksAbout : {C : Type 0} → connections.Ghosts C → Plan → Command → List ℕ → Option TalkEnd
-    → C → C → Type 0
+abbrev pub TalksAbout : {C : Type 0} → connections.Ghosts C → Plan → Command → List ℕ
+    → Option TalkEnd → C → C → Type 0
 TalksAbout K plan (OnFiles (Save config guest)) description end old new =
     HasTalked K (recording_for plan guest description) at_begin [] end old new
 TalksAbout K plan other description end old new = ⊥

@@ -35,14 +35,14 @@ pub record SaysOfCauses {X C : Type 0} (S : stores.Ghosts X) (K : connections.Gh
   pub write_count : K.write_faults connection ≤ K.write_faults connection'
 
 -- the talk where it was out of memory after that many reads
-abbrev pub IsCutTalk : {C : Type 0} → connections.Ghosts C → Option Files → Option Command → List ℕ → ℕ
-    → C → C → Type 0
+abbrev pub IsCutTalk : {C : Type 0} → connections.Ghosts C → Option Files → Option Command → List ℕ
+    → ℕ → C → C → Type 0
 IsCutTalk K told command description n old new = IsCut told command n (new ≡ old)
     (λ command plan. TalksAbout K plan command description (Some talk_end.NoMemory) old new)
 
 -- the talk at each end; nothing is transferred where none began
-abbrev pub SaysOfTalk : {C : Type 0} → connections.Ghosts C → Option Files → Option Command → List ℕ → Ended
-    → C → C → Type 0
+abbrev pub SaysOfTalk : {C : Type 0} → connections.Ghosts C → Option Files → Option Command → List ℕ
+    → Ended → C → C → Type 0
 SaysOfTalk K told command description Done old new =
     HasPlan told command (λ files command plan. TalksAbout K plan command description None old new)
 SaysOfTalk K told command description (ReadFault zero) old new = HasPlan told command (λ files command plan.

@@ -23,8 +23,9 @@ use std::alloc::Global;
 const USAGE: &[u8] = b"nesthv-gdb: usage: CONFIG GUEST\n";
 
 /// Lets gdb look at a guest of a configuration, at each position of its run, and answers the program's
-/// status: 0 where gdb has left or its stream has ended, and else those of `nesthv`. A read fault of number 0
-/// is one of gdb's stream. Without words the line of status 5 is put, and nothing else is done.
+/// status. It is 0 where gdb has left or its stream has ended, and else one of those of `nesthv`. A read
+/// fault of number 0 is one of gdb's stream. Without words the line of status 5 is put, and nothing else is
+/// done.
 pub fn debug<S: Store, C: Connection, E: Sink>(
     alloc: Global,
     words: Result<Vec<Word>, NoMemory>,

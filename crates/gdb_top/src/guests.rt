@@ -1,9 +1,8 @@
 // The guest that is debugged.
 
-ghost use Rattle.std.specs.Prelude.{◌≤◌, ◌^◌, [], IsErrOf};
-ghost use Rattle.gdb_stub.specs.Talks.{at_begin, early_end, HasTalked};
+ghost use Rattle.std.specs.Prelude.{◌≤◌, ◌^◌, []};
+ghost use Rattle.gdb_stub.specs.Talks.{at_begin, early_end, HasCauses, HasTalked};
 ghost use Rattle.guest_turns.specs.Sources.{IsBootableSource};
-ghost use Rattle.outside.specs.Faults.{Rose};
 ghost use Rattle.gdb_top.specs.Debugging.{recording_by};
 
 use debug_runs::HostRun;
@@ -24,12 +23,7 @@ pub fn talk_about<C: Connection>(
     requires few { guest.steps ≤ 2 ^ 52 }
     ensures talked { HasTalked C.Connection (recording_by guest description.now) at_begin []
         (early_end result) connection.old connection.new }
-    ensures read_cause { IsErrOf result TalkEnd.ReadFault
-        → Rose (C.read_faults connection.old) (C.read_faults connection.new) }
-    ensures read_count { C.read_faults connection.old ≤ C.read_faults connection.new }
-    ensures write_cause { IsErrOf result TalkEnd.WriteFault
-        → Rose (C.write_faults connection.old) (C.write_faults connection.new) }
-    ensures write_count { C.write_faults connection.old ≤ C.write_faults connection.new }
+    ensures causes { HasCauses C.Connection result connection.old connection.new }
 {
     let LoneGuest { source, steps } = guest;
     let Ok(run) = HostRun::new(alloc, source) else {

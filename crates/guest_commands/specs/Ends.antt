@@ -20,7 +20,9 @@ pub record ComesFor (told : Option Files) (words : List (List ℕ)) (Reading Wri
 
 -- where memory ran out after that many reads: nothing was begun, or all files had been read, and this holds
 -- of the plan
-abbrev pub IsCut : Option Files → Option Command → ℕ → Type 0 → (Command → Plan → Type 0) → Type 0
+abbrev pub IsCut : Option Files → Option Command → ℕ → Type 0 → (Command → Plan → Type 0)
+    → Type 0
 IsCut told command zero Idle Begun = Idle
 IsCut told command (suc n) Idle Begun = Idle
-    ⊎ IfKnown told command (λ files. (suc n ≡ length (asks_of files command)) × WithPlan files command Begun)
+    ⊎ IfKnown told command (λ files. (suc n ≡ length (asks_of files command))
+    × WithPlan files command Begun)

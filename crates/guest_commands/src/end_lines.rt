@@ -8,8 +8,8 @@ ghost use Rattle.nesthv_top.specs.Written.{IsLinePut};
 use nesthv_top::{Ended, status_of, tell};
 use outside::Sink;
 
-/// Puts the line that tells of an end, which is this line of usage where there is no command, and answers the
-/// end's status.
+/// Puts the line that tells of an end, and answers the end's status. Words that are not a command get this
+/// line of usage.
 pub fn finish<E: Sink>(ended: Ended, usage: &[u8], err: &mut E) -> u8
     ensures status { result ≡ status_of ended }
     ensures line { SaysOfLine E.Sink usage.now ended err.old err.new }

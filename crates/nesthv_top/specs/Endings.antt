@@ -81,6 +81,13 @@ IsOfCommand command NoCommand = ⊥
 IsOfCommand command Differs = IsReplay (Some command)
 IsOfCommand command other = ⊤
 
+-- why what is asked for ended so, by the counts of faults
+pub record SaysOfCauseFor {X Y : Type 0} (S : stores.Ghosts X) (O : sinks.Ghosts Y) (asked : Command)
+    (ended : Ended) (store store' : X) (out out' : Y) : Type 0 where
+  pub command : IsOfCommand asked ended
+  pub read : IfReadFault ended (λ n. Rose (S.faults store) (S.faults store'))
+  pub write : IfWriteFault ended (Rose (O.faults out) (O.faults out'))
+
 -- why a command ended so, by its words and by the counts of faults
 pub record SaysOfCause {X Y : Type 0} (S : stores.Ghosts X) (O : sinks.Ghosts Y) (said : List (List ℕ))
     (ended : Ended) (store store' : X) (out out' : Y) : Type 0 where

@@ -6,6 +6,7 @@ pub mod Lines
 pub mod Loads
 pub mod Moving
 pub mod OwnSections
+pub mod Performed
 pub mod Plans
 pub mod Reads
 pub mod Runnings

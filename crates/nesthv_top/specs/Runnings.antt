@@ -1,11 +1,12 @@
 -- What a run of a plan leaves: its account, and the report of machines.
-use Rattle.std.specs.Prelude.{◌≡◌, ℕ, ◌+◌, ◌^◌, ◌<◌, ◌≤◌, zero, suc, Bool, true, false, List, [], ◌∷◌, ◌++◌, length, map, Result, Ok, Err}
+use Rattle.std.specs.Prelude.{◌≡◌, ℕ, ◌+◌, ◌^◌, ◌<◌, ◌≤◌, zero, suc, Bool, true, false, List, [], ◌∷◌, ◌++◌, length, map, Option, IfSome, Result, Ok, Err}
 use Rattle.std.specs.List.{All, range_with_len}
 use Rattle.command_line.specs.Commands.{FileCommand, Run, Replay, Check, Save}
 use Rattle.guest_turns.specs.Hosted.{Hosted, count_set, is_set, part_at}
 use Rattle.guest_turns.specs.Moves.{emptied}
 use Rattle.guest_turns.specs.TurnLists.{entries_for, turn_events}
 use Rattle.machine_defs.specs.Runs.{plain_count, trace_of}
+use Rattle.run_config.specs.Configurations.{IsTurnWithin}
 use Rattle.rv64_hart.specs.Counts.{Counts, IsRaisedBy}
 use Rattle.nesthv_top.specs.declared.ends.RunEnd.{RunEnd}
 use Rattle.nesthv_top.specs.declared.ends.RunEnd.TheVariants.{NoMemory, WriteFault}
@@ -13,7 +14,7 @@ use Rattle.nesthv_top.specs.Plans.{Plan, events_of, plan_entries, turn_steps}
 use Rattle.machine_defs.specs.Machine.{Machine}
 use Rattle.machine_defs.specs.Report.{section_of}
 use Rattle.work_images.specs.Guests.{guest_name}
-use Rattle.nesthv_top.specs.Works.{line_of}
+use Rattle.nesthv_top.specs.Works.{line_of, work_heading, work_text}
 
 -- what is said of machines, which have these names, one after the other
 unfoldable pub said_of : (List ℕ → Machine → List ℕ) → List (List ℕ) → List Machine → List ℕ
@@ -31,6 +32,11 @@ work_names = map guest_name (range_with_len 0 4)
 
 abbrev pub lines_of : List Machine → List ℕ
 lines_of machines = said_of line_of work_names machines
+
+-- the machines of the four guests of a seed and a size have run, so that their lines are what `work` writes
+pub record HasWorked (seed size : ℕ) (machines : List Machine) : Type 0 where
+  pub count : length machines ≡ 4
+  pub lines : work_heading seed size ++ lines_of machines ≡ work_text seed size
 
 -- a machine as a host has it: without its RAM where its guest has retired
 abbrev pub hosted_one : Bool → Machine → Machine
@@ -56,6 +62,11 @@ pub record HasRoomForCommand (account : Counts) : Type 0 where
   pub entries : account.entries ≤ 2 ^ 61
   pub taken : account.taken ≤ 2 ^ 61
 
+-- and there is room for its moves
+pub record HasRoomForRun (counts : Counts) (moved : ℕ) : Type 0 where
+  pub account : HasRoomForCommand counts
+  pub moves : moved ≤ 2 ^ 61
+
 -- the account of turns of machines
 pub record CountsTurnsOf (machines : List Machine) (turns : List (ℕ × ℕ)) (old new : Counts) : Type 0 where
   pub entries_grow : old.entries ≤ new.entries
@@ -64,11 +75,14 @@ pub record CountsTurnsOf (machines : List Machine) (turns : List (ℕ × ℕ)) (
   pub taken_least : old.taken + plain_count (turn_events turns machines) ≤ new.taken
   pub trace : IsRaisedBy (trace_of (turn_events turns machines)) old.trace new.trace
 
--- a host as it is booted: no machine has made many steps, no guest has retired, and rooms are small
-pub record IsReady (host : Hosted) : Type 0 where
+-- a host as it is booted can make these turns, which are few, and short ones of its guests: no machine has
+-- made many steps, no guest has retired, and rooms are small
+pub record IsReady (host : Hosted) (turns : List (ℕ × ℕ)) : Type 0 where
   pub steps : All (λ m. m.platform.steps ≤ 2 ^ 60) host.machines
   pub active : (g : ℕ) → is_set host.retired g ≡ false
   pub rooms : All (λ m. m.entry_room ≤ 256) host.machines
+  pub few : length turns ≤ 2 ^ 20
+  pub short : All (IsTurnWithin (length host.machines)) turns
 
 -- each guest of a host that has not retired has a block
 pub record HaveBlocks (host : Hosted) : Type 0 where
@@ -76,12 +90,19 @@ pub record HaveBlocks (host : Hosted) : Type 0 where
   pub some : (g : ℕ) → g < length host.machines → is_set host.retired g ≡ false
       → 1 ≤ length (part_at host.parts g).blocks
 
--- blocks of a host can move: one is free. It has few guests, and a flag for each of sixteen
-pub record CanMove (host : Hosted) : Type 0 where
+-- blocks of a host can move: one is free. It has few guests, of which the one that is kept is one, and a flag
+-- for each of sixteen
+pub record CanMove (host : Hosted) (kept : Option ℕ) : Type 0 where
   pub blocks : HaveBlocks host
   pub free : 1 ≤ count_set host.free
   pub guests : length host.machines ≤ 16
   pub flags : length host.retired ≡ 16
+  pub there : IfSome kept (λ g. g < length host.machines)
+
+-- a host has this guest, which has not retired
+pub record IsActive (host : Hosted) (guest : ℕ) : Type 0 where
+  pub there : guest < length host.machines
+  pub active : is_set host.retired guest ≡ false
 
 -- the account of a plan's turns
 pub record CountsTurns (plan : Plan) (old new : Counts) : Type 0 where
@@ -104,6 +125,12 @@ IsMovedBy plan (Ok a) old new = new ≡ old + moves_for plan
 IsMovedBy plan (Err WriteFault) old new = new ≡ old + moves_for plan
 IsMovedBy plan (Err NoMemory) old new = new ≡ old
 
+-- the account and the moves of a run
+pub record AreCountsOf {A : Type 0} (plan : Plan) (result : Result A RunEnd) (old new : Counts)
+    (moves moves' : ℕ) : Type 0 where
+  pub account : IsAccountOf plan result old new
+  pub moved : IsMovedBy plan result moves moves'
+
 -- the same for what is asked for: a check runs nothing
 abbrev pub IsAccountFor : {A : Type 0} → FileCommand → Plan → Result A RunEnd → Counts → Counts → Type 0
 IsAccountFor (Run config) plan result old new = IsAccountOf plan result old new
@@ -117,3 +144,9 @@ IsMovedFor (Run config) plan result old new = IsMovedBy plan result old new
 IsMovedFor (Replay config report) plan result old new = IsMovedBy plan result old new
 IsMovedFor (Check config) plan result old new = new ≡ old
 IsMovedFor (Save config guest) plan result old new = IsMovedBy plan result old new
+
+-- the account and the moves of what is asked for
+pub record AreCountsFor {A : Type 0} (command : FileCommand) (plan : Plan) (result : Result A RunEnd)
+    (old new : Counts) (moves moves' : ℕ) : Type 0 where
+  pub account : IsAccountFor command plan result old new
+  pub moved : IsMovedFor command plan result moves moves'

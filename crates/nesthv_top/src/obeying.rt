@@ -1,15 +1,12 @@
 // From a command to its end.
 
-ghost use Rattle.std.specs.Prelude.{◌^◌, ◌≡◌, ◌≤◌, Some, IfOk, IsErrOf, OnOk, length};
+ghost use Rattle.std.specs.Prelude.{Some};
 ghost use Rattle.command_line.specs.Commands.{OnFiles, command_of};
 ghost use Rattle.command_line.specs.Seen.{file_command_seen};
-ghost use Rattle.outside.specs.Faults.{Rose};
-ghost use Rattle.nesthv_top.specs.Endings.{IfReadFault, IfRun, IfWriteFault, IfSave, IsOfCommand, SaysOfAccount, SaysOfCause, SaysOfMoves, SaysOfOut, SaysOfReads, SaysOfSaved};
-ghost use Rattle.nesthv_top.specs.Plans.{AllRunAsWritten, IsResumable};
-ghost use Rattle.nesthv_top.specs.Runnings.{HasRoomForCommand, IsAccountFor, IsMovedFor};
+ghost use Rattle.nesthv_top.specs.Endings.{SaysOfAccount, SaysOfCause, SaysOfCauseFor, SaysOfMoves, SaysOfOut, SaysOfReads, SaysOfSaved};
+ghost use Rattle.nesthv_top.specs.Performed.{HasAnswered, HasRunMachines};
+ghost use Rattle.nesthv_top.specs.Runnings.{AreCountsFor, HasRoomForRun};
 ghost use Rattle.nesthv_top.specs.Seen.{plan_seen, HasGuest, IsJob};
-ghost use Rattle.nesthv_top.specs.Texts.{verdict_with, text_with};
-ghost use Rattle.nesthv_top.specs.Written.{Writes};
 
 use crate::checking::check;
 use crate::ends::{Ended, Job, Loaded, RunEnd};
@@ -34,8 +31,7 @@ pub fn obey<S: Store, O: Sink>(
     tally: &mut Tally,
     moves: &mut Moves,
 ) -> Ended
-    requires room { HasRoomForCommand tally.old }
-    requires moves { moves.old ≤ 2 ^ 61 }
+    requires room { HasRoomForRun tally.old moves.old }
 
     ensures cause { SaysOfCause S.Store O.Sink words.now result store.old store.new out.old out.new }
     ensures reads { SaysOfReads S.Store (command_of words.now) result store.old store.new }
@@ -65,12 +61,10 @@ fn answer<S: Store, O: Sink>(
     tally: &mut Tally,
     moves: &mut Moves,
 ) -> Ended
-    requires room { HasRoomForCommand tally.old }
-    requires moves { moves.old ≤ 2 ^ 61 }
+    requires room { HasRoomForRun tally.old moves.old }
 
-    ensures command { IsOfCommand (OnFiles (file_command_seen request.entry)) result }
-    ensures read { IfReadFault result (λ n. Rose (S.faults store.old) (S.faults store.new)) }
-    ensures write { IfWriteFault result (Rose (O.faults out.old) (O.faults out.new)) }
+    ensures cause { SaysOfCauseFor S.Store O.Sink (OnFiles (file_command_seen request.entry)) result
+        store.old store.new out.old out.new }
     ensures reads { SaysOfReads S.Store (Some (OnFiles (file_command_seen request.entry))) result
         store.old store.new }
     ensures out { SaysOfOut O.Sink (S.files store.old) (Some (OnFiles (file_command_seen request.entry)))
@@ -108,20 +102,13 @@ fn perform<O: Sink>(
 ) -> Result<Verdict, RunEnd>
     requires job { IsJob job }
     requires guest { HasGuest (file_command_seen request) job.config }
-    requires room { HasRoomForCommand tally.old }
-    requires moves { moves.old ≤ 2 ^ 61 }
+    requires room { HasRoomForRun tally.old moves.old }
 
-    ensures found { IfOk result (λ found.
-        found ≡ verdict_with (file_command_seen request.entry) stored.now (plan_seen job)) }
-    ensures out { Writes O.Sink result out.old out.new
-        (text_with (file_command_seen request.entry) stored.now (plan_seen job)) }
-    ensures account { IsAccountFor (file_command_seen request.entry) (plan_seen job) result
-        tally.old tally.new }
-    ensures moved { IsMovedFor (file_command_seen request.entry) (plan_seen job) result
-        moves.old moves.new }
-    ensures machines { IfRun (OnFiles (file_command_seen request.entry)) (AllRunAsWritten (plan_seen job)) }
-    ensures saved { OnOk result
-        (IfSave (OnFiles (file_command_seen request.entry)) (IsResumable (plan_seen job))) }
+    ensures answer { HasAnswered O.Sink (file_command_seen request.entry) stored.now (plan_seen job) result
+        out.old out.new }
+    ensures counts { AreCountsFor (file_command_seen request.entry) (plan_seen job) result
+        tally.old tally.new moves.old moves.new }
+    ensures machines { HasRunMachines (OnFiles (file_command_seen request.entry)) (plan_seen job) result }
 {
     match request {
         FileRequest::Run { .. } => {

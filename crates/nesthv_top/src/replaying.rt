@@ -1,10 +1,10 @@
 // A run whose report is compared with a stored one.
 
-ghost use Rattle.std.specs.Prelude.{◌^◌, ◌≡◌, ◌≤◌, IfOk, IsErrOf};
+ghost use Rattle.std.specs.Prelude.{◌≡◌, IfOk, IsErrOf};
 ghost use Rattle.outside.specs.Faults.{Rose};
 ghost use Rattle.replay.specs.Comparisons.{verdict_of};
 ghost use Rattle.nesthv_top.specs.Plans.{AllRunAsWritten, report_of};
-ghost use Rattle.nesthv_top.specs.Runnings.{HasRoomForCommand, IsAccountOf, IsMovedBy};
+ghost use Rattle.nesthv_top.specs.Runnings.{AreCountsOf, HasRoomForRun};
 ghost use Rattle.nesthv_top.specs.Seen.{plan_seen, IsJob};
 ghost use Rattle.nesthv_top.specs.Texts.{verdict_line};
 ghost use Rattle.nesthv_top.specs.Written.{Writes};
@@ -29,14 +29,12 @@ pub fn replay<O: Sink>(
     moves: &mut Moves,
 ) -> Result<Verdict, RunEnd>
     requires job { IsJob job }
-    requires room { HasRoomForCommand tally.old }
-    requires moves { moves.old ≤ 2 ^ 61 }
+    requires room { HasRoomForRun tally.old moves.old }
 
     ensures verdict { IfOk result (λ found. found ≡ verdict_of stored.now (report_of (plan_seen job))) }
     ensures out { Writes O.Sink result out.old out.new
         (verdict_line (verdict_of stored.now (report_of (plan_seen job)))) }
-    ensures account { IsAccountOf (plan_seen job) result tally.old tally.new }
-    ensures moved { IsMovedBy (plan_seen job) result moves.old moves.new }
+    ensures counts { AreCountsOf (plan_seen job) result tally.old tally.new moves.old moves.new }
     ensures machines { AllRunAsWritten (plan_seen job) }
 {
     let mut compare = Compare::new(stored);

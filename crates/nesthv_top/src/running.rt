@@ -1,18 +1,18 @@
 // From a job to its report, or to the form of one of its guests.
 
-ghost use Rattle.std.specs.Prelude.{◌≡◌, ℕ, ◌+◌, ◌%◌, ◌^◌, ◌≤◌, ◌<◌, false, get_or, is_ok, length, IfOk, IfSome, IsErrOf, OnOk, OnErr};
+ghost use Rattle.std.specs.Prelude.{◌≡◌, ℕ, ◌+◌, ◌%◌, ◌^◌, ◌≤◌, ◌<◌, false, get_or, is_ok, length, IfOk, IfSome, IsErrOf, OnErr};
 ghost use Rattle.std.specs.List.{All};
 ghost use Rattle.outside.specs.Faults.{Rose};
 ghost use Rattle.outside.specs.Pieces.{Puts};
 ghost use Rattle.guest_turns.specs.Hosted.{count_set, is_set, lowest, part_at, KeepsShares};
-ghost use Rattle.guest_save.specs.Forms.{form};
 ghost use Rattle.guest_turns.specs.Moves.{HasMoved};
 ghost use Rattle.guest_turns.specs.TurnLists.{with_turns};
-ghost use Rattle.run_config.specs.Configurations.{IsGuestWithin, IsTurnWithin};
-ghost use Rattle.nesthv_top.specs.Plans.{AllRunAsWritten, IsResumable, machine_after, report_of};
-ghost use Rattle.nesthv_top.specs.Moving.{kept_turn, own_turns, retires, shares_of, with_moves};
-ghost use Rattle.nesthv_top.specs.Runnings.{hosted_as, sections_of, CanMove, CountsTurnsOf, HasRoomForCommand, HaveBlocks, IsAccountOf, IsMovedBy, IsReady};
-ghost use Rattle.nesthv_top.specs.HostedRuns.{CanRun, HasCounted, HasRunPlan};
+ghost use Rattle.run_config.specs.Configurations.{IsGuestWithin};
+ghost use Rattle.nesthv_top.specs.Plans.{AllRunAsWritten, report_of};
+ghost use Rattle.nesthv_top.specs.Moving.{kept_turn, own_turns};
+ghost use Rattle.nesthv_top.specs.Performed.{HasSaved};
+ghost use Rattle.nesthv_top.specs.Runnings.{sections_of, AreCountsOf, CanMove, CountsTurnsOf, HasRoomForCommand, HasRoomForRun, HaveBlocks, IsActive, IsReady};
+ghost use Rattle.nesthv_top.specs.HostedRuns.{CanRun, HasCounted, HasMadeTurns, HasRunPlan};
 ghost use Rattle.nesthv_top.specs.Seen.{names_in, plan_seen, plan_with, IsJob};
 ghost use Rattle.nesthv_top.specs.Written.{Writes};
 ghost use Rattle.outside.specs.Texts.{PutsText};
@@ -39,12 +39,10 @@ pub fn run<O: Sink>(
     moves: &mut Moves,
 ) -> Result<(), RunEnd>
     requires job { IsJob job }
-    requires room { HasRoomForCommand tally.old }
-    requires moves { moves.old ≤ 2 ^ 61 }
+    requires room { HasRoomForRun tally.old moves.old }
 
     ensures out { Writes O.Sink result out.old out.new (report_of (plan_seen job)) }
-    ensures account { IsAccountOf (plan_seen job) result tally.old tally.new }
-    ensures moved { IsMovedBy (plan_seen job) result moves.old moves.new }
+    ensures counts { AreCountsOf (plan_seen job) result tally.old tally.new moves.old moves.new }
     ensures machines { AllRunAsWritten (plan_seen job) }
 {
     let Job {
@@ -75,14 +73,11 @@ pub fn save<O: Sink>(
 ) -> Result<(), RunEnd>
     requires job { IsJob job }
     requires guest { guest < length job.sources.items }
-    requires room { HasRoomForCommand tally.old }
-    requires moves { moves.old ≤ 2 ^ 61 }
+    requires room { HasRoomForRun tally.old moves.old }
 
-    ensures out { Writes O.Sink result out.old out.new (form (machine_after (plan_seen job) guest)) }
-    ensures account { IsAccountOf (plan_seen job) result tally.old tally.new }
-    ensures moved { IsMovedBy (plan_seen job) result moves.old moves.new }
+    ensures saved { HasSaved O.Sink (plan_seen job) guest result out.old out.new }
+    ensures counts { AreCountsOf (plan_seen job) result tally.old tally.new moves.old moves.new }
     ensures machines { AllRunAsWritten (plan_seen job) }
-    ensures savable { OnOk result (IsResumable (plan_seen job) guest) }
 {
     let Job {
         config,
@@ -114,8 +109,7 @@ pub fn hosted(
     moves: &mut Moves,
 ) -> Result<Host, NoMemory>
     requires plan { CanRun (plan_with sources.items turns.now spare) kept }
-    requires room { HasRoomForCommand tally.old }
-    requires moves { moves.old ≤ 2 ^ 61 }
+    requires room { HasRoomForRun tally.old moves.old }
 
     ensures ran { IfOk result (HasRunPlan (plan_with sources.items turns.now spare) kept) }
     ensures counted { HasCounted (plan_with sources.items turns.now spare) result
@@ -139,9 +133,7 @@ pub fn hosted(
 
 // Makes the turns, in order.
 fn run_turns(host: &mut Host, turns: &[(u32, u64)], tally: &mut Tally)
-    requires ready { IsReady host.old }
-    requires few { length turns.now ≤ 2 ^ 20 }
-    requires short { All (IsTurnWithin (length host.old.machines)) turns.now }
+    requires ready { IsReady host.old turns.now }
     requires room { HasRoomForCommand tally.old }
 
     ensures machines { host.new.machines ≡ with_turns turns.now host.old.machines }
@@ -163,20 +155,11 @@ fn run_moving(
     tally: &mut Tally,
     moves: &mut Moves,
 )
-    requires ready { IsReady host.old }
-    requires movable { CanMove host.old }
-    requires few { length turns.now ≤ 2 ^ 20 }
-    requires short { All (IsTurnWithin (length host.old.machines)) turns.now }
-    requires kept { IfSome kept (λ g. g < length host.old.machines) }
-    requires room { HasRoomForCommand tally.old }
-    requires moves { moves.old ≤ 2 ^ 61 }
+    requires ready { IsReady host.old turns.now }
+    requires movable { CanMove host.old kept }
+    requires room { HasRoomForRun tally.old moves.old }
 
-    ensures machines { host.new.machines
-        ≡ hosted_as host.new.retired (with_turns turns.now host.old.machines) }
-    ensures kept { IfSome kept (λ g. is_set host.new.retired g ≡ false) }
-    ensures retired { (g : ℕ) → g < length host.old.machines
-        → is_set host.new.retired g ≡ retires kept turns.now g }
-    ensures shares { shares_of host.new ≡ with_moves kept 0 turns.now (shares_of host.old) }
+    ensures made { HasMadeTurns kept turns.now host.old host.new }
     ensures account { CountsTurnsOf host.old.machines turns.now tally.old tally.new }
     ensures moved { moves.new ≡ moves.old + length turns.now }
 {
@@ -223,8 +206,7 @@ fn one_kept(kept: Option<u32>) -> [u32; MOST_GUESTS]
 
 // Moves a block of a guest after the turn of this number: the blocks take turns too.
 fn move_block(host: &mut Host, guest: u32, turn: u64, moves: &mut Moves)
-    requires guest { guest < length host.old.machines }
-    requires active { is_set host.old.retired guest ≡ false }
+    requires guest { IsActive host.old guest }
     requires blocks { HaveBlocks host.old }
     requires free { 1 ≤ count_set host.old.free }
     requires room { moves.old < 2 ^ 62 }

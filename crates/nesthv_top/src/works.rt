@@ -1,13 +1,14 @@
 // Guests that a seed and a size give: their run, and a line for each.
 
-ghost use Rattle.std.specs.Prelude.{◌≡◌, ◌++◌, ◌^◌, ◌<◌, ◌≤◌, is_ok, length, IfOk, IsErrOf, OnErr, OnOk};
+ghost use Rattle.std.specs.Prelude.{◌≡◌, ◌++◌, ◌<◌, ◌≤◌, is_ok, length, IfOk, IsErrOf, OnErr, OnOk};
 ghost use Rattle.std.specs.List.{sum};
+ghost use Rattle.command_line.specs.Seen.{IsWork};
 ghost use Rattle.outside.specs.Faults.{Rose};
 ghost use Rattle.outside.specs.Pieces.{Puts};
 ghost use Rattle.turn_plan.specs.Turns.{rounds_of};
 ghost use Rattle.work_images.specs.Guests.{guest_name};
 ghost use Rattle.nesthv_top.specs.Plans.{work_plan, AllRunAsWritten};
-ghost use Rattle.nesthv_top.specs.Runnings.{lines_of, CountsTurns, HasRoomForCommand, IsAccountOf};
+ghost use Rattle.nesthv_top.specs.Runnings.{lines_of, CountsTurns, HasRoomForCommand, HasWorked, IsAccountOf};
 ghost use Rattle.nesthv_top.specs.Works.{sum_line, work_heading, work_text};
 ghost use Rattle.nesthv_top.specs.Written.{Writes};
 ghost use Rattle.outside.specs.Texts.{PutsText};
@@ -43,9 +44,7 @@ pub fn work<O: Sink>(
     out: &mut O,
     tally: &mut Tally,
 ) -> Result<(), RunEnd>
-    requires seed { seed < 2 ^ 31 }
-    requires some { 1 ≤ size }
-    requires most { size ≤ 10000 }
+    requires asked { IsWork seed size }
     requires room { HasRoomForCommand tally.old }
 
     ensures out { Writes O.Sink result out.old out.new (work_text seed size) }
@@ -58,14 +57,10 @@ pub fn work<O: Sink>(
 
 // The guests of a seed and a size, after their turns.
 fn generated(alloc: Global, seed: u64, size: u64, tally: &mut Tally) -> Result<Host, NoMemory>
-    requires seed { seed < 2 ^ 31 }
-    requires some { 1 ≤ size }
-    requires most { size ≤ 10000 }
+    requires asked { IsWork seed size }
     requires room { HasRoomForCommand tally.old }
 
-    ensures count { IfOk result (λ host. length host.machines ≡ 4) }
-    ensures lines { IfOk result (λ host.
-        work_heading seed size ++ lines_of host.machines ≡ work_text seed size) }
+    ensures ran { IfOk result (λ host. HasWorked seed size host.machines) }
     ensures account { OnOk result (CountsTurns (work_plan seed size) tally.old tally.new) }
     ensures idle { OnErr result (tally.new ≡ tally.old) }
     ensures written { AllRunAsWritten (work_plan seed size) }

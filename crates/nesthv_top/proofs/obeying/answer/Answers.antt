@@ -12,23 +12,26 @@ use Rattle.nesthv_top.proofs.obeying.answer.Goals as goal
 pub returns-in-Ok-Same-clause-account : goal.returns-in-Ok-Same-clause-account
 returns-in-Ok-Same-clause-account g c =
     counted (g.S.Store.files c.args.store.now) (file_command_seen c.args.request) c.in-Ok.loaded.job c.in-Ok-Same.field-0 c.args.tally.now c.perform.new.tally
-    c.in-Ok.ensures.loaded.plan c.in-Ok.ensures.loaded.job c.in-Ok-Same.ensures.account
+    c.in-Ok.ensures.loaded.plan c.in-Ok.ensures.loaded.job c.in-Ok-Same.ensures.counts.account
 
 pub returns-in-Ok-Differs-clause-account : goal.returns-in-Ok-Differs-clause-account
 returns-in-Ok-Differs-clause-account g c =
     counted_differing (g.S.Store.files c.args.store.now) (OnFiles (file_command_seen c.args.request)) c.args.tally.now c.perform.new.tally
     (counted (g.S.Store.files c.args.store.now) (file_command_seen c.args.request) c.in-Ok.loaded.job c.in-Ok-Differs.field-0 c.args.tally.now c.perform.new.tally
-    c.in-Ok.ensures.loaded.plan c.in-Ok.ensures.loaded.job c.in-Ok-Differs.ensures.account)
+    c.in-Ok.ensures.loaded.plan c.in-Ok.ensures.loaded.job c.in-Ok-Differs.ensures.counts.account)
 
-pub returns-in-Ok-Differs-clause-command : goal.returns-in-Ok-Differs-clause-command
-returns-in-Ok-Differs-clause-command g c =
-    differing (file_command_seen c.args.request) c.as_slice.result.now (plan_seen c.in-Ok.loaded.job) _
-    (rw c.in-Ok-Differs.field-0-is at c.in-Ok-Differs.ensures.found)
+pub returns-in-Ok-Differs-clause-cause : goal.returns-in-Ok-Differs-clause-cause
+returns-in-Ok-Differs-clause-cause g c = record {
+  command = differing (file_command_seen c.args.request) c.as_slice.result.now (plan_seen c.in-Ok.loaded.job) _
+      (rw c.in-Ok-Differs.field-0-is at c.in-Ok-Differs.ensures.answer.found);
+  read = tt;
+  write = tt;
+}
 
 pub returns-in-Err-WriteFault-clause-account : goal.returns-in-Err-WriteFault-clause-account
 returns-in-Err-WriteFault-clause-account g c =
     counted_in_part (g.S.Store.files c.args.store.now) (file_command_seen c.args.request) c.in-Ok.loaded.job Same c.args.tally.now c.perform.new.tally
-    c.in-Ok.ensures.loaded.plan c.in-Ok.ensures.loaded.job (rw c.in-Err-WriteFault.field-0-is at c.in-Err-WriteFault.ensures.account)
+    c.in-Ok.ensures.loaded.plan c.in-Ok.ensures.loaded.job (rw c.in-Err-WriteFault.field-0-is at c.in-Err-WriteFault.ensures.counts.account)
 
 pub returns-clause-reads : goal.returns-clause-reads
 returns-clause-reads g c =

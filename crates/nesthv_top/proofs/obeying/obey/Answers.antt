@@ -14,9 +14,9 @@ pub returns-in-Ok-Some-OnFiles-clause-cause : goal.returns-in-Ok-Some-OnFiles-cl
 returns-in-Ok-Some-OnFiles-clause-cause g c =
     let is = rw c.in-Ok-Some-OnFiles.field-0-0-is at (rw c.in-Ok-Some-OnFiles.field-0-is at c.in-Ok-Some-OnFiles.ensures.request) in
     record {
-      words = is_for c.args.words.now (OnFiles (file_command_seen c.in-Ok-Some-OnFiles.request)) c.answer.result (sym is) c.answer.ensures.command;
-      read = c.answer.ensures.read;
-      write = c.answer.ensures.write;
+      words = is_for c.args.words.now (OnFiles (file_command_seen c.in-Ok-Some-OnFiles.request)) c.answer.result (sym is) c.answer.ensures.cause.command;
+      read = c.answer.ensures.cause.read;
+      write = c.answer.ensures.cause.write;
     }
 
 pub returns-in-Ok-clause-account : goal.returns-in-Ok-clause-account

@@ -1,8 +1,11 @@
-use Rattle.std.proofs.Common.{◌≡◌, ◌∙◌, ◌+◌, ◌<◌, length, get_or, ap, sym, arith}
+use Rattle.std.proofs.Common.{◌≡◌, ◌∙◌, ◌+◌, ◌<◌, length, get_or, ap, sym, subst, arith}
+use Rattle.std.specs.Prelude.{IfSome}
+use Rattle.std.specs.List.{All}
 use Rattle.std.proofs.lemmas.List.{get_or-map, length-map}
 use Rattle.arch_defs.specs.Layouts.{no_part}
 use Rattle.guest_turns.specs.Sources.{machine_of_source, machines_of_sources, need_of_source, needs_of_sources}
 use Rattle.guest_turns.specs.TurnLists.{with_turns}
+use Rattle.run_config.specs.Configurations.{IsTurnWithin}
 use Rattle.nesthv_top.specs.Moving.{shares_of, AreBooted}
 use Rattle.nesthv_top.specs.Runnings.{hosted_as}
 use Rattle.nesthv_top.proofs.MovedShares.{each_moved, each_moves, each_retires, kept_shares, none_moved, none_retires}
@@ -25,6 +28,17 @@ returns-in_err-host-clause-written c =
       first_since = c.saved_machines_go_on.ensures.first;
     }) c.requires.plan.sources.each
 
+pub run_moving-requires-clause-ready : goal.run_moving-requires-clause-ready
+run_moving-requires-clause-ready c =
+    let machines : length c.in_ok-host.host.machines ≡ length c.args.sources.items = ap length c.in_ok-host.ensures.machines ∙ length-map c.args.sources.items machine_of_source in
+    record {
+      steps = c.in_ok-host.ensures.steps;
+      active = c.in_ok-host.ensures.active;
+      rooms = c.rooms_are_small.ensures;
+      few = c.requires.plan.few;
+      short = subst (λ n. All (IsTurnWithin n) c.args.turns.now) (sym machines) c.requires.plan.short;
+    }
+
 pub run_moving-requires-clause-movable : goal.run_moving-requires-clause-movable
 run_moving-requires-clause-movable c =
     let parts = c.in_ok-host.ensures.parts in
@@ -41,6 +55,7 @@ run_moving-requires-clause-movable c =
       free = omega (arith, c.in_ok-host.ensures.count, c.if-spare-eq0.false);
       guests = omega (arith, machines, c.requires.plan.sources.few);
       flags = c.in_ok-host.ensures.flags;
+      there = subst (λ n. IfSome c.args.kept (λ g. g < n)) (sym machines) c.requires.plan.there;
     }
 
 pub returns-clause-written : goal.returns-clause-written
@@ -79,13 +94,13 @@ returns-clause-ran c =
             there = all_active c.args.kept w.run_turns.new.host.retired run.active;
           })
       | else-spare-eq0 w ↦
-          let run = w.run_moving.ensures in
+          let run = w.run_moving.ensures.made in
           rw w.host-is (record {
             machines = run.machines ∙ ap (λ first. hosted_as w.run_moving.new.host.retired (with_turns turns first)) booted.machines;
             active = λ none. absurd (w.if-spare-eq0.false none);
             retired = λ g inside. run.retired g (omega (arith, inside, count)) ∙ sym (each_retires c.args.spare c.args.kept turns g w.if-spare-eq0.false);
             shares = (shares_of c.in_ok-host.host, are, run.shares ∙ sym (each_moved c.args.spare c.args.kept turns (shares_of c.in_ok-host.host) w.if-spare-eq0.false));
-            there = run.kept;
+            there = run.there;
           })
     ]
 

@@ -1,7 +1,7 @@
-use Rattle.std.proofs.Common.{◌≡◌, None, true, false, rules, ◌∙◌, subst, Err, sym}
+use Rattle.std.proofs.Common.{◌≡◌, ◌+◌, None, true, false, rules, ◌∙◌, subst, Err, sym}
 use Rattle.nesthv_top.specs.declared.ends.RunEnd.TheVariants.{WriteFault}
 use Rattle.nesthv_top.specs.Plans.{AllRunAsWritten, report_of}
-use Rattle.nesthv_top.specs.Runnings.{CountsTurns}
+use Rattle.nesthv_top.specs.Runnings.{moves_for, CountsTurns}
 use Rattle.nesthv_top.specs.Seen.{plan_seen}
 use Rattle.nesthv_top.specs.Written.{Writes}
 use Rattle.nesthv_top.proofs.Reporting.{as_many, put_is}
@@ -29,9 +29,13 @@ returns-clause-out g c =
       stays = c.put_sections.ensures.stays;
     }
 
-pub returns-clause-account : goal.returns-clause-account
-returns-clause-account g c =
-    subst (λ plan. CountsTurns plan c.args.tally.now c.hosted.new.tally) (job_plan c.args.job _ _ (c.as_slice.ensures ∙ c.turns.ensures.turns) c.spare.ensures.spare) c.in_ok-host.ensures.counted.account
+pub returns-clause-counts : goal.returns-clause-counts
+returns-clause-counts g c =
+    let same = job_plan c.args.job _ _ (c.as_slice.ensures ∙ c.turns.ensures.turns) c.spare.ensures.spare in
+    record {
+      account = subst (λ plan. CountsTurns plan c.args.tally.now c.hosted.new.tally) same c.in_ok-host.ensures.counted.account;
+      moved = subst (λ plan. c.hosted.new.moves ≡ c.args.moves.now + moves_for plan) same c.in_ok-host.ensures.counted.moved;
+    }
 
 pub returns-clause-machines : goal.returns-clause-machines
 returns-clause-machines g c =
@@ -50,10 +54,14 @@ returns-in_err-put_sections-clause-out g c =
       stays = c.put_sections.ensures.stays;
     })
 
-pub returns-in_err-put_sections-clause-account : goal.returns-in_err-put_sections-clause-account
-returns-in_err-put_sections-clause-account g c =
+pub returns-in_err-put_sections-clause-counts : goal.returns-in_err-put_sections-clause-counts
+returns-in_err-put_sections-clause-counts g c =
     let failed : c.from_residual-in_err-put_sections.result ≡ Err WriteFault = search rules in
-    rw failed (subst (λ plan. CountsTurns plan c.args.tally.now c.hosted.new.tally) (job_plan c.args.job _ _ (c.as_slice.ensures ∙ c.turns.ensures.turns) c.spare.ensures.spare) c.in_ok-host.ensures.counted.account)
+    let same = job_plan c.args.job _ _ (c.as_slice.ensures ∙ c.turns.ensures.turns) c.spare.ensures.spare in
+    rw failed (record {
+      account = subst (λ plan. CountsTurns plan c.args.tally.now c.hosted.new.tally) same c.in_ok-host.ensures.counted.account;
+      moved = subst (λ plan. c.hosted.new.moves ≡ c.args.moves.now + moves_for plan) same c.in_ok-host.ensures.counted.moved;
+    })
 
 pub returns-in_err-put_sections-clause-machines : goal.returns-in_err-put_sections-clause-machines
 returns-in_err-put_sections-clause-machines g c =

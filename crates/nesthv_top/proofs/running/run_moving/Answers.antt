@@ -1,6 +1,9 @@
 use Rattle.std.proofs.Common.{◌≡◌, ◌∙◌, ◌<◌, length, get_or, refl, ap, sym, arith}
+use Rattle.std.proofs.lemmas.List.{take_all}
 use Rattle.guest_turns.specs.Hosted.{is_set, machine_at}
+use Rattle.guest_turns.specs.TurnLists.{with_turns}
 use Rattle.nesthv_top.specs.Moving.{shares_of}
+use Rattle.nesthv_top.specs.Runnings.{hosted_as}
 use Rattle.guest_turns.proofs.Updating.{length_updated}
 use Rattle.machine_defs.specs.Runs.{run}
 use Rattle.nesthv_top.proofs.MovedShares.{shares_at_end, shares_go_on, shares_retire, who_retired}
@@ -11,7 +14,7 @@ use Rattle.nesthv_top.proofs.running.run_moving.Goals.{then-left-guest-eq0, else
 use Rattle.nesthv_top.proofs.running.run_moving.Goals as goal
 
 pub turns_left-left-requires-clause-guests : goal.turns_left-left-requires-clause-guests
-turns_left-left-requires-clause-guests c = λ k d inside. omega (arith, (c.requires.short k d inside).guest, c.requires.movable.guests)
+turns_left-left-requires-clause-guests c = λ k d inside. omega (arith, (c.requires.ready.short k d inside).guest, c.requires.movable.guests)
 
 pub loop-t-init : goal.loop-t-init
 loop-t-init c = record {
@@ -23,7 +26,7 @@ loop-t-init c = record {
 pub turn-requires-clause-guest : goal.turn-requires-clause-guest
 turn-requires-clause-guest c =
     let inv = c.loop-t.invariant.moving in
-    omega (arith, (c.requires.short c.loop-t.t (0, 0) c.loop-t-test.true).guest, inv.turns_left.count, ap length inv.machines, as_many_hosted c.loop-t.host.retired (lone c.args.turns.now c.args.host.now.machines c.loop-t.t))
+    omega (arith, (c.requires.ready.short c.loop-t.t (0, 0) c.loop-t-test.true).guest, inv.turns_left.count, ap length inv.machines, as_many_hosted c.loop-t.host.retired (lone c.args.turns.now c.args.host.now.machines c.loop-t.t))
 
 pub turn-requires-clause-active : goal.turn-requires-clause-active
 turn-requires-clause-active c =
@@ -37,8 +40,8 @@ turn-requires-clause-steps c =
     let ms = lone c.args.turns.now c.args.host.now.machines c.loop-t.t in
     let active = next_active c.args.kept c.args.turns.now _ _ _ c.loop-t.t turn.0 turn.1 c.loop-t.host _ _ _ (0, 0) c.loop-t-test.true refl inv in
     let here : machine_at c.loop-t.host.machines turn.0 ≡ machine_at ms turn.0 = ap (λ ms. machine_at ms turn.0) inv.machines ∙ active_one c.loop-t.host.retired ms turn.0 active in
-    let b = bounded _ c.args.turns.now _ _ c.loop-t.t (0, 0) _ _ c.requires.few c.requires.short c.loop-t-test.true inv.turns_left in
-    let inside : turn.0 < length ms = rw inv.turns_left.count (c.requires.short c.loop-t.t (0, 0) c.loop-t-test.true).guest in
+    let b = bounded _ c.args.turns.now _ _ c.loop-t.t (0, 0) _ _ c.requires.ready.few c.requires.ready.short c.loop-t-test.true inv.turns_left in
+    let inside : turn.0 < length ms = rw inv.turns_left.count (c.requires.ready.short c.loop-t.t (0, 0) c.loop-t-test.true).guest in
     rw here (omega (arith, b.0, b.1, inv.turns_left.steps turn.0 inside))
 
 pub turn-requires-clause-room : goal.turn-requires-clause-room
@@ -48,31 +51,29 @@ turn-requires-clause-room c =
     let ms = lone c.args.turns.now c.args.host.now.machines c.loop-t.t in
     let active = next_active c.args.kept c.args.turns.now _ _ _ c.loop-t.t turn.0 turn.1 c.loop-t.host _ _ _ (0, 0) c.loop-t-test.true refl inv in
     let here : machine_at c.loop-t.host.machines turn.0 ≡ machine_at ms turn.0 = ap (λ ms. machine_at ms turn.0) inv.machines ∙ active_one c.loop-t.host.retired ms turn.0 active in
-    let b = bounded _ c.args.turns.now _ _ c.loop-t.t (0, 0) _ _ c.requires.few c.requires.short c.loop-t-test.true inv.turns_left in
+    let b = bounded _ c.args.turns.now _ _ c.loop-t.t (0, 0) _ _ c.requires.ready.few c.requires.ready.short c.loop-t-test.true inv.turns_left in
     rw here (record {
-      entries = entries_left _ c.args.turns.now _ _ c.loop-t.t (0, 0) _ _ c.requires.few c.requires.short c.requires.ready.rooms c.loop-t-test.true inv.turns_left c.requires.room.entries;
-      taken = omega (arith, b.0, b.1, inv.turns_left.taken_most, c.requires.room.taken);
+      entries = entries_left _ c.args.turns.now _ _ c.loop-t.t (0, 0) _ _ c.requires.ready.few c.requires.ready.short c.requires.ready.rooms c.loop-t-test.true inv.turns_left c.requires.room.account.entries;
+      taken = omega (arith, b.0, b.1, inv.turns_left.taken_most, c.requires.room.account.taken);
     })
 
 pub move_block-requires-clause-guest : goal.move_block-requires-clause-guest
 move_block-requires-clause-guest c =
     let inv = c.loop-t.invariant.moving in
     let turn = get_or c.args.turns.now c.loop-t.t (0, 0) in
-    omega (
-      arith,
-      (c.requires.short c.loop-t.t (0, 0) c.loop-t-test.true).guest,
-      inv.turns_left.count,
-      ap length inv.machines,
-      as_many_hosted c.loop-t.host.retired (lone c.args.turns.now c.args.host.now.machines c.loop-t.t),
-      ap length c.turn.ensures.machines,
-      length_updated turn.0 (λ m. run m turn.1) c.loop-t.host.machines,
-    )
-
-pub move_block-requires-clause-active : goal.move_block-requires-clause-active
-move_block-requires-clause-active c =
-    let turn = get_or c.args.turns.now c.loop-t.t (0, 0) in
-    ap (λ flags. is_set flags turn.0) c.turn.ensures.shares.retired
-    ∙ next_active c.args.kept c.args.turns.now _ _ _ c.loop-t.t turn.0 turn.1 c.loop-t.host _ _ _ (0, 0) c.loop-t-test.true refl c.loop-t.invariant.moving
+    record {
+      there = omega (
+        arith,
+        (c.requires.ready.short c.loop-t.t (0, 0) c.loop-t-test.true).guest,
+        inv.turns_left.count,
+        ap length inv.machines,
+        as_many_hosted c.loop-t.host.retired (lone c.args.turns.now c.args.host.now.machines c.loop-t.t),
+        ap length c.turn.ensures.machines,
+        length_updated turn.0 (λ m. run m turn.1) c.loop-t.host.machines,
+      );
+      active = ap (λ flags. is_set flags turn.0) c.turn.ensures.shares.retired
+          ∙ next_active c.args.kept c.args.turns.now _ _ _ c.loop-t.t turn.0 turn.1 c.loop-t.host _ _ _ (0, 0) c.loop-t-test.true refl inv;
+    }
 
 pub move_block-requires-clause-blocks : goal.move_block-requires-clause-blocks
 move_block-requires-clause-blocks c =
@@ -81,18 +82,18 @@ move_block-requires-clause-blocks c =
     c.loop-t.invariant.moving.blocks
 
 pub bounds-left-guest : goal.bounds-left-guest
-bounds-left-guest c = omega (arith, (c.requires.short c.loop-t.t (0, 0) c.loop-t-test.true).guest, c.requires.movable.guests)
+bounds-left-guest c = omega (arith, (c.requires.ready.short c.loop-t.t (0, 0) c.loop-t-test.true).guest, c.requires.movable.guests)
 
 pub bounds-left-guest-in-loop-t : goal.bounds-left-guest-in-loop-t
-bounds-left-guest-in-loop-t c = omega (arith, (c.requires.short c.loop-t.t (0, 0) c.loop-t-test.true).guest, c.requires.movable.guests)
+bounds-left-guest-in-loop-t c = omega (arith, (c.requires.ready.short c.loop-t.t (0, 0) c.loop-t-test.true).guest, c.requires.movable.guests)
 
 pub bounds-left-guest-in-loop-t-2 : goal.bounds-left-guest-in-loop-t-2
-bounds-left-guest-in-loop-t-2 c = omega (arith, (c.requires.short c.loop-t.t (0, 0) c.loop-t-test.true).guest, c.requires.movable.guests)
+bounds-left-guest-in-loop-t-2 c = omega (arith, (c.requires.ready.short c.loop-t.t (0, 0) c.loop-t-test.true).guest, c.requires.movable.guests)
 
 pub overflow_sub-left : goal.overflow_sub-left
 overflow_sub-left c =
     let turn = get_or c.args.turns.now c.loop-t.t (0, 0) in
-    let few : turn.0 < 16 = omega (arith, (c.requires.short c.loop-t.t (0, 0) c.loop-t-test.true).guest, c.requires.movable.guests) in
+    let few : turn.0 < 16 = omega (arith, (c.requires.ready.short c.loop-t.t (0, 0) c.loop-t-test.true).guest, c.requires.movable.guests) in
     one_left c.args.kept c.args.turns.now c.loop-t.t turn.0 turn.1 c.loop-t.left (0, 0) c.loop-t-test.true refl (c.loop-t.invariant.moving.own turn.0 few)
 
 pub retire-requires-clause-guest : goal.retire-requires-clause-guest
@@ -101,7 +102,7 @@ retire-requires-clause-guest c =
     let turn = get_or c.args.turns.now c.loop-t.t (0, 0) in
     omega (
       arith,
-      (c.requires.short c.loop-t.t (0, 0) c.loop-t-test.true).guest,
+      (c.requires.ready.short c.loop-t.t (0, 0) c.loop-t-test.true).guest,
       inv.turns_left.count,
       ap length inv.machines,
       as_many_hosted c.loop-t.host.retired (lone c.args.turns.now c.args.host.now.machines c.loop-t.t),
@@ -119,7 +120,7 @@ retire-requires-clause-active c =
 pub loop-t-preserved : goal.loop-t-preserved
 loop-t-preserved c =
     let turn = get_or c.args.turns.now c.loop-t.t (0, 0) in
-    let few : turn.0 < 16 = omega (arith, (c.requires.short c.loop-t.t (0, 0) c.loop-t-test.true).guest, c.requires.movable.guests) in
+    let few : turn.0 < 16 = omega (arith, (c.requires.ready.short c.loop-t.t (0, 0) c.loop-t-test.true).guest, c.requires.movable.guests) in
     let between = turned_and_moved c.args.kept c.args.turns.now c.args.host.now.machines c.args.tally.now c.args.moves.now c.loop-t.t turn.0 turn.1 c.turn.result _ _ c.loop-t.host c.turn.new.self
     c.move_block.new.host c.loop-t.left c.loop-t.tally c.turn.new.tally c.loop-t.moves c.move_block.new.moves (0, 0) c.loop-t-test.true refl c.loop-t.invariant.moving (record {
       machines = c.turn.ensures.machines;
@@ -145,13 +146,14 @@ loop-t-preserved c =
       })
     ]
 
-pub returns-clause-kept : goal.returns-clause-kept
-returns-clause-kept c = still_there c.args.kept _ _ _ _ _ _ _ _ _ c.loop-t.invariant.moving
-
-pub returns-clause-shares : goal.returns-clause-shares
-returns-clause-shares c = sym (shares_at_end c.args.kept c.args.turns.now c.loop-t.t (shares_of c.loop-t.host) c.loop-t-test.false) ∙ c.loop-t.invariant.shares
-
-pub returns-clause-retired : goal.returns-clause-retired
-returns-clause-retired c = λ g inside.
-    who_retired c.args.kept c.args.turns.now c.args.host.now c.loop-t.host g c.requires.movable.flags (omega (arith, inside, c.requires.movable.guests)) (c.requires.ready.active g)
-    (sym (shares_at_end c.args.kept c.args.turns.now c.loop-t.t (shares_of c.loop-t.host) c.loop-t-test.false) ∙ c.loop-t.invariant.shares)
+pub returns-clause-made : goal.returns-clause-made
+returns-clause-made c =
+    let inv = c.loop-t.invariant.moving in
+    let shares = sym (shares_at_end c.args.kept c.args.turns.now c.loop-t.t (shares_of c.loop-t.host) c.loop-t-test.false) ∙ c.loop-t.invariant.shares in
+    record {
+      machines = inv.machines ∙ ap (λ turns. hosted_as c.loop-t.host.retired (with_turns turns c.args.host.now.machines)) (take_all c.loop-t.t c.args.turns.now c.loop-t-test.false);
+      there = still_there c.args.kept _ _ _ _ _ _ _ _ _ inv;
+      retired = λ g inside.
+          who_retired c.args.kept c.args.turns.now c.args.host.now c.loop-t.host g c.requires.movable.flags (omega (arith, inside, c.requires.movable.guests)) (c.requires.ready.active g) shares;
+      shares = shares;
+    }

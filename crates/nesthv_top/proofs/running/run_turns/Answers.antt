@@ -4,18 +4,18 @@ use Rattle.nesthv_top.proofs.running.run_turns.Goals as goal
 
 pub turn-requires-clause-steps : goal.turn-requires-clause-steps
 turn-requires-clause-steps c =
-    let b = bounded _ c.args.turns.now _ _ c.loop-guest.guest-index (0, 0) _ _ c.requires.few c.requires.short c.loop-guest-test.true c.loop-guest.invariant.left in
+    let b = bounded _ c.args.turns.now _ _ c.loop-guest.guest-index (0, 0) _ _ c.requires.ready.few c.requires.ready.short c.loop-guest-test.true c.loop-guest.invariant.left in
     let turn = get_or c.args.turns.now c.loop-guest.guest-index (0, 0) in
     let inside : turn.0 < length c.loop-guest.host.machines =
-    rw c.loop-guest.invariant.left.count (c.requires.short c.loop-guest.guest-index (0, 0) c.loop-guest-test.true).guest in
+    rw c.loop-guest.invariant.left.count (c.requires.ready.short c.loop-guest.guest-index (0, 0) c.loop-guest-test.true).guest in
     omega (arith, b.0, b.1, c.loop-guest.invariant.left.steps turn.0 inside)
 
 pub turn-requires-clause-room : goal.turn-requires-clause-room
 turn-requires-clause-room c =
-    let b = bounded _ c.args.turns.now _ _ c.loop-guest.guest-index (0, 0) _ _ c.requires.few c.requires.short c.loop-guest-test.true c.loop-guest.invariant.left in
+    let b = bounded _ c.args.turns.now _ _ c.loop-guest.guest-index (0, 0) _ _ c.requires.ready.few c.requires.ready.short c.loop-guest-test.true c.loop-guest.invariant.left in
     record {
       entries =
-          entries_left _ c.args.turns.now _ _ c.loop-guest.guest-index (0, 0) _ _ c.requires.few c.requires.short c.requires.ready.rooms c.loop-guest-test.true
+          entries_left _ c.args.turns.now _ _ c.loop-guest.guest-index (0, 0) _ _ c.requires.ready.few c.requires.ready.short c.requires.ready.rooms c.loop-guest-test.true
           c.loop-guest.invariant.left c.requires.room.entries;
       taken = omega (arith, b.0, b.1, c.loop-guest.invariant.left.taken_most, c.requires.room.taken);
     }

@@ -26,7 +26,7 @@ returns-in_err-guests-clause-written c =
       goes_on = c.saved_machines_go_on.ensures.goes_on;
       since = c.saved_machines_go_on.ensures.fresh;
       first_since = c.saved_machines_go_on.ensures.first;
-    }) (sources_bootable c.args.seed c.args.size c.requires.most)
+    }) (sources_bootable c.args.seed c.args.size c.requires.asked.size_most)
 
 pub returns-in_err-turns-clause-written : goal.returns-in_err-turns-clause-written
 returns-in_err-turns-clause-written c =
@@ -39,7 +39,7 @@ returns-in_err-turns-clause-written c =
       goes_on = c.saved_machines_go_on.ensures.goes_on;
       since = c.saved_machines_go_on.ensures.fresh;
       first_since = c.saved_machines_go_on.ensures.first;
-    }) (sources_bootable c.args.seed c.args.size c.requires.most)
+    }) (sources_bootable c.args.seed c.args.size c.requires.asked.size_most)
 
 pub returns-in_err-sources-clause-written : goal.returns-in_err-sources-clause-written
 returns-in_err-sources-clause-written c =
@@ -52,30 +52,28 @@ returns-in_err-sources-clause-written c =
       goes_on = c.saved_machines_go_on.ensures.goes_on;
       since = c.saved_machines_go_on.ensures.fresh;
       first_since = c.saved_machines_go_on.ensures.first;
-    }) (sources_bootable c.args.seed c.args.size c.requires.most)
+    }) (sources_bootable c.args.seed c.args.size c.requires.asked.size_most)
 
 pub hosted-requires-clause-plan : goal.hosted-requires-clause-plan
 hosted-requires-clause-plan c =
     let sources = c.in_ok-sources.ensures ∙ ap (map Fresh) c.in_ok-guests.ensures in
     let turns = c.as_slice.ensures ∙ c.in_ok-turns.ensures in
-    rw (sources, turns) (work_runs c.args.seed c.args.size c.requires.most)
+    rw (sources, turns) (work_runs c.args.seed c.args.size c.requires.asked.size_most)
 
-pub returns-clause-count : goal.returns-clause-count
-returns-clause-count c =
-    let first = machines_of_sources c.in_ok-sources.sources.items in
-    ap length c.in_ok-host.ensures.ran.machines ∙ as_many_hosted c.in_ok-host.host.retired (with_turns c.as_slice.result.now first) ∙ turns_keep_count c.as_slice.result.now first
-    ∙ length-map c.in_ok-sources.sources.items machine_of_source ∙ ap length c.in_ok-sources.ensures ∙ length-map c.in_ok-guests.guests.items Fresh
-    ∙ ap length c.in_ok-guests.ensures ∙ four_guests c.args.seed c.args.size
-
-pub returns-clause-lines : goal.returns-clause-lines
-returns-clause-lines c =
+pub returns-clause-ran : goal.returns-clause-ran
+returns-clause-ran c =
     let first = machines_of_sources c.in_ok-sources.sources.items in
     let machines : first ≡ map start (guests c.args.seed c.args.size) =
     ap machines_of_sources (c.in_ok-sources.ensures ∙ ap (map Fresh) c.in_ok-guests.ensures) ∙ fresh_machines (guests c.args.seed c.args.size) in
-    text_is c.args.seed c.args.size c.in_ok-host.host.machines (c.in_ok-host.ensures.ran.machines
-    ∙ none_retired c.in_ok-host.host.retired (with_turns c.as_slice.result.now first) (c.in_ok-host.ensures.ran.active refl)
-    ∙ ap (λ turns. with_turns turns first) (c.as_slice.ensures ∙ c.in_ok-turns.ensures)
-    ∙ ap (with_turns (rounds_of 4 1000 c.args.size)) machines)
+    record {
+      count = ap length c.in_ok-host.ensures.ran.machines ∙ as_many_hosted c.in_ok-host.host.retired (with_turns c.as_slice.result.now first) ∙ turns_keep_count c.as_slice.result.now first
+          ∙ length-map c.in_ok-sources.sources.items machine_of_source ∙ ap length c.in_ok-sources.ensures ∙ length-map c.in_ok-guests.guests.items Fresh
+          ∙ ap length c.in_ok-guests.ensures ∙ four_guests c.args.seed c.args.size;
+      lines = text_is c.args.seed c.args.size c.in_ok-host.host.machines (c.in_ok-host.ensures.ran.machines
+          ∙ none_retired c.in_ok-host.host.retired (with_turns c.as_slice.result.now first) (c.in_ok-host.ensures.ran.active refl)
+          ∙ ap (λ turns. with_turns turns first) (c.as_slice.ensures ∙ c.in_ok-turns.ensures)
+          ∙ ap (with_turns (rounds_of 4 1000 c.args.size)) machines);
+    }
 
 pub returns-clause-account : goal.returns-clause-account
 returns-clause-account c =
