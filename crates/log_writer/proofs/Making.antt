@@ -4,18 +4,17 @@ use Rattle.std.specs.Prelude.{Err, Ok}
 use Rattle.std.proofs.lemmas.List.{append_assoc}
 use Rattle.std.specs.Option.{option_to_list}
 use Rattle.arch_defs.specs.declared.cached.Entry.{Entry}
-use Rattle.guest_settings.specs.declared.statuses.Status.{Status}
-use Rattle.guest_settings.specs.declared.statuses.Status.TheVariants.{Running, Waiting, Stopped}
+use Rattle.guest_settings.specs.declared.statuses.Status.TheVariants.{Running}
 use Rattle.log_lines.specs.declared.kinds.Kinds.{Kinds}
 use Rattle.log_lines.specs.declared.lines.Line.{Line}
 use Rattle.machine_defs.specs.declared.events.Event.{Event}
 use Rattle.machine_defs.specs.Fills.{fill, fills, missing_entry, most_fills, needed, ready}
 use Rattle.machine_defs.specs.Freshness.{next_found}
 use Rattle.machine_defs.specs.Machine.{Machine, Platform, Tried as TryEnd, WaitsForGood}
-use Rattle.machine_defs.specs.Runs.{event_in, events_by, left_after, step}
+use Rattle.machine_defs.specs.Runs.{event_in, left_after, step}
 use Rattle.machine_defs.specs.Tries.{try}
 use Rattle.fill_laws.proofs.Filling.{fills_go_on, no_fills}
-use Rattle.fill_laws.proofs.Running.{step_running}
+use Rattle.fill_laws.proofs.Running.{events_running, step_running}
 use Rattle.run_log.specs.Calls.{call_lines}
 use Rattle.run_log.specs.Fences.{fence_lines}
 use Rattle.run_log.specs.Fills.{fill_line, fill_lines, first_translation, next_filled, second_translation}
@@ -49,11 +48,6 @@ pub now_running : (before now : Machine) → IsFilled before now → before.plat
 now_running before now filled running = ap (λ (p : Platform). p.status) filled.platform ∙ running
 
 -- the last try makes the step
-events_running : (m : Machine) (s : Status) → s ≡ Running → events_by m s ≡ event_in (try (ready m))
-events_running m Running is = refl
-events_running m Waiting is = absurd cc
-events_running m Stopped is = absurd cc
-
 no_event : (t : TryEnd) → t ≡ WaitsForGood → event_in t ≡ []
 no_event t is = ap event_in is
 
@@ -68,7 +62,7 @@ module _ (kinds : Kinds) (kept : Before) (before now after : Machine) (tried : T
         before = is;
         last = refl;
         tried = subst (λ (m : Machine). IsTry kinds m tried) at shows;
-        events = events_running before before.platform.status running ∙ ap (λ (m : Machine). event_in (try m)) (sym at) ∙ events;
+        events = events_running before running ∙ ap (λ (m : Machine). event_in (try m)) (sym at) ∙ events;
         after = stepped;
         reads =
             subst (λ (p : Platform). IsReadOf p.console.inputs (step before).platform.console.inputs) filled.platform

@@ -1,10 +1,11 @@
 -- A step of the log that has been made, and the lines of what it has cached.
-use Rattle.std.specs.Prelude.{ℕ, ◌≡◌, ◌+◌, ◌^◌, ◌<◌, ◌≤◌, Bool, List, ◌++◌, Result, Ok, Err, map}
+use Rattle.std.specs.Prelude.{ℕ, ◌≡◌, ◌+◌, ◌^◌, ◌<◌, ◌≤◌, Bool, List, ◌++◌, Option, Result, Ok, Err, map}
 use Rattle.std.specs.Option.{option_to_list}
 use Rattle.arch_defs.specs.declared.cached.Entry.{Entry}
 use Rattle.guest_settings.specs.declared.statuses.Status.TheVariants.{Running}
 use Rattle.log_lines.specs.declared.kinds.Kinds.{Kinds}
 use Rattle.log_lines.specs.declared.lines.Line.{Line}
+use Rattle.machine_defs.specs.declared.events.Event.{Event}
 use Rattle.machine_defs.specs.Freshness.{next_found}
 use Rattle.machine_defs.specs.Machine.{Machine}
 use Rattle.run_log.specs.Fills.{fill_line, first_translation, second_translation}
@@ -12,12 +13,10 @@ use Rattle.run_log.specs.Log.{if_asked}
 use Rattle.run_log.specs.Seen.{Seen}
 use Rattle.run_log.specs.Stale.{stale_lines}
 use Rattle.run_log.specs.Traps.{step_events}
-use Rattle.step_logs.specs.Befores.{before_of}
 use Rattle.step_logs.specs.StepTexts.{IsOfStep, lines_from_steps}
 use Rattle.step_logs.specs.Tries.{IsOneTry, IsTry}
 use Rattle.step_logs.specs.declared.befores.Before.{Before}
 use Rattle.step_logs.specs.declared.step_texts.Tried.{Tried}
-use Rattle.log_writer.specs.declared.steps.Made.{Made}
 
 -- the lines of translations of the second stage that it has cached
 abbrev pub second_lines : Bool → Seen → List Entry → List Line
@@ -51,9 +50,8 @@ pub record IsTriedStep (kinds : Kinds) (s : Seen) (kept : Before) (made : Tried)
   pub own : IsOfStep kinds s kept made m
   pub most : m.platform.steps ≤ s.before.platform.steps + 1
 
--- a step has been made, and its lines have been put
-pub record HasBeenMade (s : Seen) (made : Made) (m : Machine) : Type 0 where
-  pub before : made.before ≡ before_of s.number s.before
-  pub events : step_events s ≡ option_to_list made.event
+-- a step has been made, which was this unless it waits for good, and its lines have been put
+pub record HasBeenMade (s : Seen) (event : Option Event) (m : Machine) : Type 0 where
+  pub events : step_events s ≡ option_to_list event
   pub after : m ≡ s.after
   pub most : m.platform.steps ≤ s.before.platform.steps + 1

@@ -18,13 +18,13 @@ ghost use Rattle.step_logs.specs.Befores.{before_of};
 use crate::counts::Counts;
 use crate::log_ends::LogEnd;
 use crate::stale_logs::StaleLog;
-use crate::steps::{Made, log_step};
+use crate::steps::log_step;
 use log_lines::Kinds;
 use machine_defs::{Event, Status};
 use no_memory::NoMemory;
 use outside::Sink;
 use std::alloc::Global;
-use step_logs::TryRunner;
+use step_logs::{Before, TryRunner};
 
 // Whether an event is an instruction, and no interrupt taken.
 fn is_instruction(event: &Event) -> bool
@@ -47,14 +47,14 @@ fn has_instruction(event: &Option<Event>) -> bool
 }
 
 // Counts the instruction of a step.
-fn count_made(counts: &mut Counts, made: &Made) -> Result<(), NoMemory>
+fn count_made(counts: &mut Counts, before: &Before, event: &Option<Event>) -> Result<(), NoMemory>
     ensures { OnOk result ((origin : Machine) (from steps : ℕ) → steps < 2 ^ 63
-        → made.now.before ≡ before_of (from + steps) (run origin (from + steps))
-        → step_events (seen origin (from + steps)) ≡ option_to_list made.now.event
+        → before.now ≡ before_of (from + steps) (run origin (from + steps))
+        → step_events (seen origin (from + steps)) ≡ option_to_list event.now
         → AreCounts origin from steps counts.old → AreCounts origin from (steps + 1) counts.new) }
 {
-    if has_instruction(&made.event) {
-        counts.count(&made.before.key())?;
+    if has_instruction(event) {
+        counts.count(&before.key())?;
         Ok(())
     } else {
         Ok(())
@@ -62,15 +62,20 @@ fn count_made(counts: &mut Counts, made: &Made) -> Result<(), NoMemory>
 }
 
 // Counts it where that is asked for.
-fn count_step(counts: &mut Counts, asked: bool, made: &Made) -> Result<(), NoMemory>
+fn count_step(
+    counts: &mut Counts,
+    asked: bool,
+    before: &Before,
+    event: &Option<Event>,
+) -> Result<(), NoMemory>
     ensures { OnOk result ((origin : Machine) (from steps : ℕ) → steps < 2 ^ 63
-        → made.now.before ≡ before_of (from + steps) (run origin (from + steps))
-        → step_events (seen origin (from + steps)) ≡ option_to_list made.now.event
+        → before.now ≡ before_of (from + steps) (run origin (from + steps))
+        → step_events (seen origin (from + steps)) ≡ option_to_list event.now
         → AreCountsIf asked origin from steps counts.old
         → AreCountsIf asked origin from (steps + 1) counts.new) }
 {
     if asked {
-        count_made(counts, made)?;
+        count_made(counts, before, event)?;
         Ok(())
     } else {
         Ok(())
@@ -91,7 +96,8 @@ fn log_steps<R: TryRunner, O: Sink>(
     ensures counted { IfOk result (λ counts. (origin : Machine) → R.machine runner.old ≡ run origin from
         → AreCountsIf kinds.now.counts origin from steps counts) }
     ensures bytes { (origin : Machine) → R.machine runner.old ≡ run origin from
-        → (kinds.now.stale ≡ true → IsOrderly origin) → Puts O.stands_for out.old out.new (is_ok result)
+        → (kinds.now.stale ≡ true → IsOrderly origin)
+        → Puts O.stands_for out.old out.new (is_ok result)
         (text_of_lines (lines_from kinds.now origin from steps)) }
     ensures cause { IsErrOf result LogEnd.WriteFault → Rose (O.faults out.old) (O.faults out.new) }
     ensures count { O.faults out.old ≤ O.faults out.new }
@@ -102,8 +108,9 @@ fn log_steps<R: TryRunner, O: Sink>(
         if runner.status() != Status::Running {
             return Ok(counts);
         }
-        let made = log_step(runner, kinds, number, &mut stale, out)?;
-        count_step(&mut counts, kinds.counts, &made)?;
+        let before = Before::of(runner, number);
+        let event = log_step(runner, kinds, &before, &mut stale, out)?;
+        count_step(&mut counts, kinds.counts, &before, &event)?;
         stale.renew_if(alloc, kinds.stale, runner)?;
     }
     Ok(counts)

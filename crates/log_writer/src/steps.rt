@@ -28,13 +28,6 @@ use outside::{Sink, SinkFault};
 use run_log::second_translation;
 use step_logs::{Before, Tried, Try, TryRunner, put_first, put_from_steps, put_line};
 
-/// A step that has been made: the machine before it, and what it was, unless it waits for good.
-#[derive(Drop)]
-pub struct Made {
-    pub before: Before,
-    pub event: Option<Event>,
-}
-
 // The line of a translation of the second stage that has been cached.
 fn second_fill(before: &Before, entry: &Entry) -> Line
     ensures { (s : Seen) → before.now ≡ before_of s.number s.before
@@ -165,33 +158,31 @@ fn put_step<R: TryRunner, O: Sink>(
     Ok(())
 }
 
-/// Makes the step of this number of a machine that goes on, and puts its lines.
+/// Makes the step of a machine that goes on, of which this is kept, and puts its lines. Answers what the step
+/// was, unless it waits for good.
 pub fn log_step<R: TryRunner, O: Sink>(
     runner: &mut R,
     kinds: &Kinds,
-    number: u64,
+    before: &Before,
     stale: &mut StaleLog,
     out: &mut O,
-) -> Result<Made, LogEnd>
+) -> Result<Option<Event>, LogEnd>
+    requires before { before.now ≡ before_of before.now.number (R.machine runner.old) }
     requires goes_on { CanMakeStep (R.machine runner.old) }
-    ensures made { IfOk result (λ made.
-        HasBeenMade (seen_from number (R.machine runner.old)) made (R.machine runner.new)) }
+    ensures made { IfOk result (λ event. HasBeenMade (seen_from before.now.number (R.machine runner.old))
+        event (R.machine runner.new)) }
     ensures noted { OnOk result (kinds.now.stale ≡ true → stale.new.steps
-        ≡ (stale.old.steps ++ fill_notes number (R.machine runner.old))
-        ++ found_notes number (R.machine runner.old)) }
+        ≡ (stale.old.steps ++ fill_notes before.now.number (R.machine runner.old))
+        ++ found_notes before.now.number (R.machine runner.old)) }
     ensures bytes { (origin : Machine) (from : ℕ)
-        → (kinds.now.stale ≡ true → TellUses origin from (seen_from number (R.machine runner.old))
-        (stale.old.steps ++ fill_notes number (R.machine runner.old)))
-        → Puts O.stands_for out.old out.new (is_ok result)
-        (text_of_lines (lines_of_step kinds.now origin from (seen_from number (R.machine runner.old)))) }
+        → (kinds.now.stale ≡ true → TellUses origin from (seen_from before.now.number (R.machine runner.old))
+        (stale.old.steps ++ fill_notes before.now.number (R.machine runner.old)))
+        → Puts O.stands_for out.old out.new (is_ok result) (text_of_lines
+        (lines_of_step kinds.now origin from (seen_from before.now.number (R.machine runner.old)))) }
     ensures cause { IsErrOf result LogEnd.WriteFault → Rose (O.faults out.old) (O.faults out.new) }
     ensures count { O.faults out.old ≤ O.faults out.new }
 {
-    let before = Before::of(runner, number);
-    let made = make_step(runner, kinds, &before, stale, out)?;
-    put_step(runner, kinds, &before, &made, stale, out)?;
-    Ok(Made {
-        before,
-        event: made.event,
-    })
+    let made = make_step(runner, kinds, before, stale, out)?;
+    put_step(runner, kinds, before, &made, stale, out)?;
+    Ok(made.event)
 }

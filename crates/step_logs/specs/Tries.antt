@@ -25,7 +25,8 @@ use Rattle.step_logs.specs.declared.tries.Try.{Try}
 abbrev pub IsOneTry : Machine → Result (Option Event) Entry → Machine → Type 0
 IsOneTry m (Ok (Some event)) after =
     (missing_entry m ≡ None) × (event_in (try m) ≡ event ∷ []) × (after ≡ left_after m)
-IsOneTry m (Ok None) after = (missing_entry m ≡ None) × (try m ≡ WaitsForGood) × (after ≡ left_after m)
+IsOneTry m (Ok None) after = (missing_entry m ≡ None) × (try m ≡ WaitsForGood)
+    × (after ≡ left_after m)
 IsOneTry m (Err e) after = (missing_entry m ≡ Some e) × (after ≡ fill m e)
 
 -- how many translations of each stage are cached

@@ -138,7 +138,8 @@ impl StaleUses {
 
 // Notes each translation of these.
 fn note_leaves(steps: &mut CachingSteps, found: &Leaves, step: u64) -> Result<(), NoMemory>
-    ensures { OnOk result (steps.new ≡ steps.old ++ notes_of step (map first_name (leaves_list found.now))) }
+    ensures { OnOk result (steps.new
+        ≡ steps.old ++ notes_of step (map first_name (leaves_list found.now))) }
 {
     note_first(steps, &found.at_pc, step)?;
     note_first(steps, &found.of_data, step)

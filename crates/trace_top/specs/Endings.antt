@@ -23,14 +23,14 @@ pub record SaysOfFaults {X Y : Type 0} (S : stores.Ghosts X) (O : sinks.Ghosts Y
   pub count : O.faults out ≤ O.faults out'
 
 -- the log where it was out of memory after that many reads
-abbrev pub IsCutLog : {O : Type 0} → sinks.Ghosts O → Option Files → Option Command → Option Asked → ℕ
-    → O → O → Type 0
+abbrev pub IsCutLog : {O : Type 0} → sinks.Ghosts O → Option Files → Option Command → Option Asked
+    → ℕ → O → O → Type 0
 IsCutLog K told command asked n old new =
     IsCut told command n (new ≡ old) (λ command plan. Logs K plan command asked false old new)
 
 -- the log at each end; nothing is put where none began
-abbrev pub SaysOfLog : {O : Type 0} → sinks.Ghosts O → Option Files → Option Command → Option Asked → Ended
-    → O → O → Type 0
+abbrev pub SaysOfLog : {O : Type 0} → sinks.Ghosts O → Option Files → Option Command → Option Asked
+    → Ended → O → O → Type 0
 SaysOfLog K told command asked Done old new =
     HasPlan told command (λ files command plan. Logs K plan command asked true old new)
 SaysOfLog K told command asked WriteFault old new =

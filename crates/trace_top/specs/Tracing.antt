@@ -56,13 +56,15 @@ trace_command words = command_of (trace_words words)
 
 -- the log of a guest of a plan has been appended, or a front of it: of the steps of its own turns, from one
 -- on and up to another
-abbrev pub LogsGuest : {O : Type 0} → sinks.Ghosts O → Plan → ℕ → Asked → Bool → O → O → Type 0
+abbrev pub LogsGuest : {O : Type 0} → sinks.Ghosts O → Plan → ℕ → Asked → Bool → O → O
+    → Type 0
 LogsGuest K plan guest asked whole old new =
     HasLogged K asked.kinds (machine_at (machines_of plan) guest) asked.from
     (steps_between asked.from asked.to (own_steps guest plan.turns)) whole old new
 
 -- that of the guest that a command names
-abbrev pub Logs : {O : Type 0} → sinks.Ghosts O → Plan → Command → Option Asked → Bool → O → O → Type 0
+abbrev pub Logs : {O : Type 0} → sinks.Ghosts O → Plan → Command → Option Asked → Bool → O → O
+    → Type 0
 Logs K plan (OnFiles (Save config guest)) (Some asked) whole old new =
     LogsGuest K plan guest asked whole old new
 Logs K plan other asked whole old new = ⊥

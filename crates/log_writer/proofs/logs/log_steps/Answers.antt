@@ -1,4 +1,4 @@
-use Rattle.std.proofs.Common.{arith, rules, ◌≡◌, ◌≢◌, ◌∙◌, ◌+◌, ◌-◌, ◌≤◌, ap, sym, subst, List, true, false}
+use Rattle.std.proofs.Common.{arith, rules, ℕ, ◌≡◌, ◌≢◌, ◌∙◌, ◌+◌, ◌-◌, ◌≤◌, ap, sym, subst, List, true, false}
 use Rattle.std.specs.Prelude.{is_ok}
 use Rattle.caching_steps.proofs.Steps.{remembers_at_start}
 use Rattle.guest_settings.specs.declared.statuses.Status.TheVariants.{Running}
@@ -7,6 +7,8 @@ use Rattle.machine_defs.specs.Machine.{Machine}
 use Rattle.outside.specs.Pieces.{Puts}
 use Rattle.run_log.specs.Log.{lines_of_step, text_of_lines}
 use Rattle.run_log.specs.Seen.{seen_from}
+use Rattle.step_logs.specs.Befores.{before_of}
+use Rattle.step_logs.specs.declared.befores.Before.{Before}
 use Rattle.log_writer.proofs.Counting.{counts_start}
 use Rattle.log_writer.proofs.Idle.{all_left, counted_now, counts_idle, made_now, none_left, nothing_left, step_left}
 use Rattle.log_writer.proofs.Putting.{rest_front, rest_none, rest_stopped, rest_then}
@@ -44,15 +46,19 @@ pub log_step-requires : goal.log_step-requires
 log_step-requires g c =
     let going : c.status.result ≡ Running = search rules in
     record {
+      before =
+          subst (λ (n : ℕ). c.of-before.result ≡ before_of n (g.R.TryRunner.machine c.loop-number.runner))
+          (sym (ap (λ (b : Before). b.number) c.of-before.ensures)) c.of-before.ensures;
       goes_on = record {
         running = sym c.status.ensures ∙ going;
         early = omega (arith, c.loop-number.invariant.early, c.requires.early, c.requires.few, c.loop-number-test.true);
       };
     }
 
-pub returns-in_err-made-clause-bytes : goal.returns-in_err-made-clause-bytes
-returns-in_err-made-clause-bytes g c = λ origin is orderly.
+pub returns-in_err-event-clause-bytes : goal.returns-in_err-event-clause-bytes
+returns-in_err-event-clause-bytes g c = λ origin is orderly.
     let going : c.status.result ≡ Running = search rules in
+    let number = ap (λ (b : Before). b.number) c.of-before.ensures in
     let failed : is_ok c.from_residual.result ≡ false = search rules in
     let at = c.loop-number.invariant.machine origin is in
     let last = c.args.from + c.args.steps in
@@ -62,13 +68,14 @@ returns-in_err-made-clause-bytes g c = λ origin is orderly.
     (ap (λ (m : Machine). m.platform.status) (sym at) ∙ sym c.status.ensures ∙ going)) (c.loop-number.invariant.left origin is orderly)
     (subst (λ (m : Machine). Puts g.O.Sink.stands_for c.loop-number.out c.log_step.new.out false
     (text_of_lines (lines_of_step c.args.kinds.now origin c.args.from (seen_from c.loop-number.number m)))) at
-    (c.in_err-made.ensures.bytes origin c.args.from
+    ((rw number at c.in_err-event.ensures.bytes) origin c.args.from
     (λ asked. uses_told origin (g.R.TryRunner.machine c.loop-number.runner) c.args.from c.loop-number.number c.loop-number.stale.steps at (orderly asked) begins
     (sym c.status.ensures ∙ going) (c.loop-number.invariant.remembers asked origin is (orderly asked))))))
 
 pub returns-in_err-count_step-clause-bytes : goal.returns-in_err-count_step-clause-bytes
 returns-in_err-count_step-clause-bytes g c = λ origin is orderly.
     let going : c.status.result ≡ Running = search rules in
+    let number = ap (λ (b : Before). b.number) c.of-before.ensures in
     let failed : is_ok c.from_residual-in_err-count_step.result ≡ false = search rules in
     let at = c.loop-number.invariant.machine origin is in
     let last = c.args.from + c.args.steps in
@@ -79,13 +86,14 @@ returns-in_err-count_step-clause-bytes g c = λ origin is orderly.
     (ap (λ (m : Machine). m.platform.status) (sym at) ∙ sym c.status.ensures ∙ going)) (c.loop-number.invariant.left origin is orderly)
     (subst (λ (m : Machine). Puts g.O.Sink.stands_for c.loop-number.out c.log_step.new.out true
     (text_of_lines (lines_of_step c.args.kinds.now origin c.args.from (seen_from c.loop-number.number m)))) at
-    (c.in_ok-made.ensures.bytes origin c.args.from
+    ((rw number at c.in_ok-event.ensures.bytes) origin c.args.from
     (λ asked. uses_told origin (g.R.TryRunner.machine c.loop-number.runner) c.args.from c.loop-number.number c.loop-number.stale.steps at (orderly asked) begins
     (sym c.status.ensures ∙ going) (c.loop-number.invariant.remembers asked origin is (orderly asked)))))))
 
 pub returns-in_err-renew_if-clause-bytes : goal.returns-in_err-renew_if-clause-bytes
 returns-in_err-renew_if-clause-bytes g c = λ origin is orderly.
     let going : c.status.result ≡ Running = search rules in
+    let number = ap (λ (b : Before). b.number) c.of-before.ensures in
     let failed : is_ok c.from_residual-in_err-renew_if.result ≡ false = search rules in
     let at = c.loop-number.invariant.machine origin is in
     let last = c.args.from + c.args.steps in
@@ -96,14 +104,15 @@ returns-in_err-renew_if-clause-bytes g c = λ origin is orderly.
     (ap (λ (m : Machine). m.platform.status) (sym at) ∙ sym c.status.ensures ∙ going)) (c.loop-number.invariant.left origin is orderly)
     (subst (λ (m : Machine). Puts g.O.Sink.stands_for c.loop-number.out c.log_step.new.out true
     (text_of_lines (lines_of_step c.args.kinds.now origin c.args.from (seen_from c.loop-number.number m)))) at
-    (c.in_ok-made.ensures.bytes origin c.args.from
+    ((rw number at c.in_ok-event.ensures.bytes) origin c.args.from
     (λ asked. uses_told origin (g.R.TryRunner.machine c.loop-number.runner) c.args.from c.loop-number.number c.loop-number.stale.steps at (orderly asked) begins
     (sym c.status.ensures ∙ going) (c.loop-number.invariant.remembers asked origin is (orderly asked)))))))
 
 pub loop-number-preserved : goal.loop-number-preserved
 loop-number-preserved g c =
     let going : c.status.result ≡ Running = search rules in
-    let made = c.in_ok-made.ensures.made in
+    let number = ap (λ (b : Before). b.number) c.of-before.ensures in
+    let made = rw number at c.in_ok-event.ensures.made in
     let last = c.args.from + c.args.steps in
     let begins : c.args.from ≤ c.loop-number.number = search rules in
     record {
@@ -113,7 +122,7 @@ loop-number-preserved g c =
       early = omega (arith, c.loop-number.invariant.early, made.most);
       counted = λ origin is.
           counted_now c.args.kinds.now.counts origin (g.R.TryRunner.machine c.loop-number.runner) c.args.from c.loop-number.number c.loop-number.counts
-          c.count_step.new.counts c.in_ok-made.made.before c.in_ok-made.made.event (search rules) (c.loop-number.invariant.machine origin is) made.before made.events
+          c.count_step.new.counts c.of-before.result c.in_ok-event.event (search rules) (c.loop-number.invariant.machine origin is) c.of-before.ensures made.events
           (c.in_ok-count_step.ensures origin c.args.from (c.loop-number.number - c.args.from) (omega (arith, c.requires.few, c.loop-number-test.true)))
           (c.loop-number.invariant.counted origin is);
       remembers = λ asked origin is orderly.
@@ -121,7 +130,7 @@ loop-number-preserved g c =
           c.in_ok-renew_if.ensures origin c.args.from (c.loop-number.number + 1)
           (made_now origin (g.R.TryRunner.machine c.loop-number.runner) (g.R.TryRunner.machine c.log_step.new.runner) c.loop-number.number at made.after)
           (remembered_on origin (g.R.TryRunner.machine c.loop-number.runner) c.args.from c.loop-number.number c.loop-number.stale.steps at orderly begins
-          (sym c.status.ensures ∙ going) (c.loop-number.invariant.remembers asked origin is orderly) c.log_step.new.stale.steps (c.in_ok-made.ensures.noted asked));
+          (sym c.status.ensures ∙ going) (c.loop-number.invariant.remembers asked origin is orderly) c.log_step.new.stale.steps ((rw number at c.in_ok-event.ensures.noted) asked));
       left = λ origin is orderly.
           let at = c.loop-number.invariant.machine origin is in
           rest_then g.O.Sink.stands_for c.args.out.now c.loop-number.out c.log_step.new.out _ _ _ _
@@ -129,7 +138,7 @@ loop-number-preserved g c =
           (ap (λ (m : Machine). m.platform.status) (sym at) ∙ sym c.status.ensures ∙ going)) (c.loop-number.invariant.left origin is orderly)
           (subst (λ (m : Machine). Puts g.O.Sink.stands_for c.loop-number.out c.log_step.new.out true
           (text_of_lines (lines_of_step c.args.kinds.now origin c.args.from (seen_from c.loop-number.number m)))) at
-          (c.in_ok-made.ensures.bytes origin c.args.from
+          ((rw number at c.in_ok-event.ensures.bytes) origin c.args.from
           (λ asked. uses_told origin (g.R.TryRunner.machine c.loop-number.runner) c.args.from c.loop-number.number c.loop-number.stale.steps at (orderly asked) begins
           (sym c.status.ensures ∙ going) (c.loop-number.invariant.remembers asked origin is (orderly asked)))));
       count = omega (arith, c.loop-number.invariant.count, c.log_step.ensures.count);

@@ -1,4 +1,4 @@
-use Rattle.std.proofs.Common.{◌≡◌, ◌∙◌, ap, sym, subst, rules, ℕ, List, ◌++◌, true, false}
+use Rattle.std.proofs.Common.{◌≡◌, ◌∙◌, ap, sym, subst, rules, List, ◌++◌, true, false}
 use Rattle.std.specs.Prelude.{is_ok}
 use Rattle.caching_steps.specs.Remembering.{found_notes}
 use Rattle.caching_steps.specs.declared.notes.Note.{Note}
@@ -7,85 +7,54 @@ use Rattle.outside.specs.Pieces.{Puts}
 use Rattle.run_log.specs.Fills.{next_filled}
 use Rattle.run_log.specs.Log.{text_of_lines}
 use Rattle.run_log.specs.Seen.{seen_from}
-use Rattle.step_logs.specs.Befores.{before_of}
 use Rattle.step_logs.specs.StaleUses.{TellUses}
-use Rattle.step_logs.specs.declared.befores.Before.{Before}
 use Rattle.step_logs.proofs.Texts.{lines_stopped, lines_then}
-use Rattle.log_writer.specs.StaleLogs.{HasShown}
-use Rattle.log_writer.specs.Steps.{IsTriedStep, lines_from_first, second_lines}
+use Rattle.log_writer.specs.Steps.{lines_from_first, second_lines}
 use Rattle.log_writer.proofs.Making.{step_lines_are}
 use Rattle.log_writer.proofs.steps.log_step.Goals as goal
 
-pub make_step-requires : goal.make_step-requires
-make_step-requires g c = record {
-  before =
-      subst (λ (n : ℕ). c.of-before.result ≡ before_of n (g.R.TryRunner.machine c.args.runner.now)) (sym (ap (λ (b : Before). b.number) c.of-before.ensures))
-      c.of-before.ensures;
-  goes_on = c.requires.goes_on;
-}
-
 pub returns-in_err-made-clause-bytes : goal.returns-in_err-made-clause-bytes
 returns-in_err-made-clause-bytes g c = λ origin from told.
-    let m = g.R.TryRunner.machine c.args.runner.now in
+    let s = seen_from c.args.before.now.number (g.R.TryRunner.machine c.args.runner.now) in
     let failed : is_ok c.from_residual.result ≡ false = search rules in
-    let number = ap (λ (b : Before). b.number) c.of-before.ensures in
     rw failed (subst (λ (l : List Line). Puts g.O.Sink.stands_for c.args.out.now c.make_step.new.out false (text_of_lines l))
-    (sym (step_lines_are c.args.kinds.now origin from (seen_from c.args.number m)))
-    (lines_stopped g.O.Sink.stands_for _ _ _ _ (subst (λ (n : ℕ). Puts g.O.Sink.stands_for c.args.out.now c.make_step.new.out false
-    (text_of_lines (second_lines c.args.kinds.now.fills (seen_from n m) (next_filled m)))) number c.in_err-made.ensures.bytes)))
+    (sym (step_lines_are c.args.kinds.now origin from s)) (lines_stopped g.O.Sink.stands_for _ _ _ _ c.in_err-made.ensures.bytes))
 
 pub returns-in_err-put_step-clause-bytes : goal.returns-in_err-put_step-clause-bytes
 returns-in_err-put_step-clause-bytes g c = λ origin from told.
     let m = g.R.TryRunner.machine c.args.runner.now in
-    let s = seen_from c.args.number m in
+    let s = seen_from c.args.before.now.number m in
     let failed : is_ok c.from_residual-in_err-put_step.result ≡ false = search rules in
-    let number = ap (λ (b : Before). b.number) c.of-before.ensures in
-    let made = subst (λ (n : ℕ). IsTriedStep c.args.kinds.now (seen_from n m) c.of-before.result c.in_ok-made.made (g.R.TryRunner.machine c.make_step.new.runner))
-    number c.in_ok-made.ensures.step in
+    let made = c.in_ok-made.ensures.step in
     rw failed (subst (λ (l : List Line). Puts g.O.Sink.stands_for c.args.out.now c.put_step.new.out false (text_of_lines l))
     (sym (step_lines_are c.args.kinds.now origin from s))
     (lines_then g.O.Sink.stands_for c.args.out.now c.make_step.new.out c.put_step.new.out false (second_lines c.args.kinds.now.fills s (next_filled m))
-    (lines_from_first c.args.kinds.now origin from s)
-    (subst (λ (n : ℕ). Puts g.O.Sink.stands_for c.args.out.now c.make_step.new.out true
-    (text_of_lines (second_lines c.args.kinds.now.fills (seen_from n m) (next_filled m)))) number c.in_ok-made.ensures.bytes)
-    (c.in_err-put_step.ensures.bytes origin from s made.own c.requires.goes_on.running
-    (λ asked. (subst (λ (n : ℕ). HasShown (seen_from n m) c.args.stale.now c.make_step.new.stale) number (c.in_ok-made.ensures.shown asked)).shown)
-    (λ asked. subst (TellUses origin from s)
-    (sym (subst (λ (n : ℕ). HasShown (seen_from n m) c.args.stale.now c.make_step.new.stale) number (c.in_ok-made.ensures.shown asked)).steps) (told asked)))))
+    (lines_from_first c.args.kinds.now origin from s) c.in_ok-made.ensures.bytes
+    (c.in_err-put_step.ensures.bytes origin from s made.own c.requires.goes_on.running (λ asked. (c.in_ok-made.ensures.shown asked).shown)
+    (λ asked. subst (TellUses origin from s) (sym (c.in_ok-made.ensures.shown asked).steps) (told asked)))))
 
 pub returns-clause-made : goal.returns-clause-made
-returns-clause-made g c =
-    let m = g.R.TryRunner.machine c.args.runner.now in
-    let number = ap (λ (b : Before). b.number) c.of-before.ensures in
-    let made = subst (λ (n : ℕ). IsTriedStep c.args.kinds.now (seen_from n m) c.of-before.result c.in_ok-made.made (g.R.TryRunner.machine c.make_step.new.runner))
-    number c.in_ok-made.ensures.step in
-    record { before = made.own.before; events = made.own.events; after = made.own.after; most = made.most }
+returns-clause-made g c = let made = c.in_ok-made.ensures.step in
+    record { events = made.own.events; after = made.own.after; most = made.most }
 
 pub returns-clause-noted : goal.returns-clause-noted
 returns-clause-noted g c = λ asked.
     let m = g.R.TryRunner.machine c.args.runner.now in
-    let number = ap (λ (b : Before). b.number) c.of-before.ensures in
-    let made = subst (λ (n : ℕ). IsTriedStep c.args.kinds.now (seen_from n m) c.of-before.result c.in_ok-made.made (g.R.TryRunner.machine c.make_step.new.runner))
-    number c.in_ok-made.ensures.step in
-    let shown = subst (λ (n : ℕ). HasShown (seen_from n m) c.args.stale.now c.make_step.new.stale) number (c.in_ok-made.ensures.shown asked) in
-    c.in_ok-put_step.ensures.noted (seen_from c.args.number m) asked (record { before = made.own.before; last = made.own.last; uses = shown.shown })
+    let n = c.args.before.now.number in
+    let made = c.in_ok-made.ensures.step in
+    let shown = c.in_ok-made.ensures.shown asked in
+    c.in_ok-put_step.ensures.noted (seen_from n m) asked (record { before = made.own.before; last = made.own.last; uses = shown.shown })
     c.requires.goes_on.running made.own.events
-    ∙ ap (λ (l : List Note). l ++ found_notes c.args.number m) shown.steps
+    ∙ ap (λ (l : List Note). l ++ found_notes n m) shown.steps
 
 pub returns-clause-bytes : goal.returns-clause-bytes
 returns-clause-bytes g c = λ origin from told.
     let m = g.R.TryRunner.machine c.args.runner.now in
-    let s = seen_from c.args.number m in
-    let number = ap (λ (b : Before). b.number) c.of-before.ensures in
-    let made = subst (λ (n : ℕ). IsTriedStep c.args.kinds.now (seen_from n m) c.of-before.result c.in_ok-made.made (g.R.TryRunner.machine c.make_step.new.runner))
-    number c.in_ok-made.ensures.step in
+    let s = seen_from c.args.before.now.number m in
+    let made = c.in_ok-made.ensures.step in
     subst (λ (l : List Line). Puts g.O.Sink.stands_for c.args.out.now c.put_step.new.out true (text_of_lines l))
     (sym (step_lines_are c.args.kinds.now origin from s))
     (lines_then g.O.Sink.stands_for c.args.out.now c.make_step.new.out c.put_step.new.out true (second_lines c.args.kinds.now.fills s (next_filled m))
-    (lines_from_first c.args.kinds.now origin from s)
-    (subst (λ (n : ℕ). Puts g.O.Sink.stands_for c.args.out.now c.make_step.new.out true
-    (text_of_lines (second_lines c.args.kinds.now.fills (seen_from n m) (next_filled m)))) number c.in_ok-made.ensures.bytes)
-    (c.in_ok-put_step.ensures.bytes origin from s made.own c.requires.goes_on.running
-    (λ asked. (subst (λ (n : ℕ). HasShown (seen_from n m) c.args.stale.now c.make_step.new.stale) number (c.in_ok-made.ensures.shown asked)).shown)
-    (λ asked. subst (TellUses origin from s)
-    (sym (subst (λ (n : ℕ). HasShown (seen_from n m) c.args.stale.now c.make_step.new.stale) number (c.in_ok-made.ensures.shown asked)).steps) (told asked))))
+    (lines_from_first c.args.kinds.now origin from s) c.in_ok-made.ensures.bytes
+    (c.in_ok-put_step.ensures.bytes origin from s made.own c.requires.goes_on.running (λ asked. (c.in_ok-made.ensures.shown asked).shown)
+    (λ asked. subst (TellUses origin from s) (sym (c.in_ok-made.ensures.shown asked).steps) (told asked))))
