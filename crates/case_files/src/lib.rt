@@ -2,8 +2,11 @@
 #![tactic(auto)]
 
 mod configuration;
+mod ends;
 mod faults;
 mod files;
+mod guests;
+mod outcome;
 mod script;
 mod sink;
 mod states;
@@ -14,8 +17,11 @@ mod text;
 mod values;
 
 pub use configuration::{Configuration, Turns};
+pub use ends::End;
 pub use faults::{Fault, told_fault};
 pub use files::Files;
+pub use guests::Guests;
+pub use outcome::Outcome;
 pub use script::{Script, StoreScript, StreamScript};
 pub use sink::ScriptedSink;
 pub use states::{are_same, tell_memory, tell_places, tell_values};

@@ -1,7 +1,8 @@
 // A file of cases: names, parts, which its blocks share, and the blocks.
 
-use crate::faults::Fault;
+use crate::faults::{Fault, told_fault};
 use crate::terms::Names;
+use no_memory::NoMemory;
 use std::alloc::Global;
 
 // The kind of a block whose lines stand wherever another one takes them.
@@ -15,7 +16,7 @@ pub struct Block<'a> {
     pub lines: Vec<&'a str>,
 }
 
-/// What the lines of a file have said so far.
+/// What the lines of a file say.
 #[derive(Drop)]
 pub struct Suite<'a> {
     alloc: Global,
@@ -23,19 +24,34 @@ pub struct Suite<'a> {
     kinds: &'static [&'static str],
     names: Names<'a>,
     parts: Vec<Block<'a>>,
+    blocks: Vec<Block<'a>>,
     open: Option<Block<'a>>,
 }
 
 impl<'a> Suite<'a> {
-    /// A file whose blocks are parts, and of these kinds.
-    pub fn new(alloc: Global, kinds: &'static [&'static str]) -> Suite<'a> {
-        Suite {
+    /// The file of this text, whose blocks are parts, and of these kinds. The lines that say nothing that is
+    /// known are told.
+    pub fn of(
+        alloc: Global,
+        kinds: &'static [&'static str],
+        text: &'a str,
+        told: &mut String,
+    ) -> Result<Suite<'a>, NoMemory> {
+        let mut suite = Suite {
             alloc,
             kinds,
             names: Names::new(alloc),
             parts: Vec::new(alloc),
+            blocks: Vec::new(alloc),
             open: None,
+        };
+        for line in text.lines() {
+            told_fault(suite.take(line), line, told)?;
         }
+        if suite.open.is_some() {
+            told.push_str("fault: no end\n")?;
+        }
+        Ok(suite)
     }
 
     /// The names that are defined.
@@ -43,23 +59,21 @@ impl<'a> Suite<'a> {
         &self.names
     }
 
-    /// Whether a block has no end yet.
-    pub fn is_open(&self) -> bool {
-        self.open.is_some()
+    /// The blocks other than parts.
+    pub fn blocks(&self) -> &[Block<'a>] {
+        self.blocks.as_slice()
     }
 
-    /// Takes a line, and gives the block that it ends, other than a part.
-    pub fn take(&mut self, line: &'a str) -> Result<Option<Block<'a>>, Fault> {
+    fn take(&mut self, line: &'a str) -> Result<(), Fault> {
         if is_comment(line) {
-            return Ok(None);
+            return Ok(());
         }
         let line = line.trim_end();
         match self.open.take() {
-            None => self.begin(line)?,
-            Some(block) if line == "end" => return self.close(block),
-            Some(block) => self.extend(block, line)?,
+            None => self.begin(line),
+            Some(block) if line == "end" => self.close(block),
+            Some(block) => self.extend(block, line),
         }
-        Ok(None)
     }
 
     fn begin(&mut self, line: &'a str) -> Result<(), Fault> {
@@ -99,12 +113,13 @@ impl<'a> Suite<'a> {
         Err(Fault::Line)
     }
 
-    fn close(&mut self, block: Block<'a>) -> Result<Option<Block<'a>>, Fault> {
+    fn close(&mut self, block: Block<'a>) -> Result<(), Fault> {
         if block.kind == PART {
             self.parts.push(block)?;
-            return Ok(None);
+        } else {
+            self.blocks.push(block)?;
         }
-        Ok(Some(block))
+        Ok(())
     }
 }
 

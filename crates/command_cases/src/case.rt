@@ -4,7 +4,7 @@ use crate::answer::{Answer, Run};
 use crate::call::call;
 use crate::formats::{Form, in_format_two};
 use crate::told::Told;
-use case_files::{Configuration, Fault, Files, Names, Script, Turns, told_fault};
+use case_files::{Fault, Guests, Names, Script, Turns, told_fault};
 use no_memory::NoMemory;
 use std::alloc::Global;
 
@@ -12,12 +12,8 @@ use std::alloc::Global;
 #[derive(Drop)]
 struct Case<'a> {
     alloc: Global,
-    files: Files<'a>,
-    configuration: Configuration<'a>,
-    script: Script<'a>,
+    guests: Guests<'a>,
     told: Told,
-    // The instructions that are not assembled yet.
-    code: Vec<&'a str>,
     has_asked: bool,
 }
 
@@ -43,11 +39,8 @@ impl<'a> Case<'a> {
     fn new(alloc: Global) -> Result<Case<'a>, NoMemory> {
         Ok(Case {
             alloc,
-            files: Files::new(alloc),
-            configuration: Configuration::new(alloc)?,
-            script: Script::new(),
+            guests: Guests::new(alloc)?,
             told: Told::new(),
-            code: Vec::new(alloc),
             has_asked: false,
         })
     }
@@ -58,43 +51,21 @@ impl<'a> Case<'a> {
         line: &'a str,
         answers: &mut String,
     ) -> Result<(), Fault> {
-        if line.starts_with(' ') {
-            self.code.push(line.trim())?;
-            return Ok(());
+        match self.guests.take(line)? {
+            None => Ok(()),
+            Some(("ask", words)) => self.ask(words, answers),
+            Some((word, rest)) => {
+                if self.guests.obey(names, word, rest)? || self.told.obey(word, rest)? {
+                    Ok(())
+                } else {
+                    Err(Fault::Line)
+                }
+            }
         }
-        self.assemble()?;
-        let (word, rest) = line.split_once(' ').unwrap_or((line, ""));
-        if word == "ask" {
-            self.ask(rest, answers)
-        } else if self.obeys(names, word, rest)? {
-            Ok(())
-        } else {
-            Err(Fault::Line)
-        }
-    }
-
-    fn obeys(&mut self, names: &Names<'_>, word: &str, rest: &'a str) -> Result<bool, Fault> {
-        if self.files.obey(names, word, rest)? {
-            return Ok(true);
-        }
-        if self.configuration.obey(word, rest)? {
-            return Ok(true);
-        }
-        if self.script.obey(word, rest)? {
-            return Ok(true);
-        }
-        self.told.obey(word, rest)
-    }
-
-    // Appends the instructions to the file at hand.
-    fn assemble(&mut self) -> Result<(), Fault> {
-        let assembled = self.files.push_code(self.code.as_slice());
-        self.code.clear();
-        assembled
     }
 
     fn end(&mut self, answers: &mut String) -> Result<(), Fault> {
-        self.assemble()?;
+        self.guests.assemble()?;
         if self.has_asked {
             return Ok(());
         }
@@ -104,12 +75,12 @@ impl<'a> Case<'a> {
     fn ask(&mut self, words: &str, answers: &mut String) -> Result<(), Fault> {
         let mut answer = Answer::new(self.alloc, self.told);
         for index in 0..self.runs(words) {
-            let turns = self.configuration.run(index).ok_or(Fault::Line)?;
+            let turns = self.guests.configuration.run(index).ok_or(Fault::Line)?;
             self.add_forms(words, turns, &mut answer)?;
         }
         answer.put(answers)?;
         self.keep(answer.saved())?;
-        self.script = Script::new();
+        self.guests.script = Script::new();
         self.has_asked = true;
         Ok(())
     }
@@ -119,7 +90,9 @@ impl<'a> Case<'a> {
         if saved.is_empty() {
             return Ok(());
         }
-        self.files.add("saved", Vec::from_slice(self.alloc, saved)?)
+        self.guests
+            .files
+            .add("saved", Vec::from_slice(self.alloc, saved)?)
     }
 
     // Adds the run of a configuration as it is written, that in format 2 where it means the same there, and
@@ -140,7 +113,7 @@ impl<'a> Case<'a> {
             let form = Form::Two;
             self.add_run(Run { words, turns, form }, changed.as_slice(), answer)?;
         }
-        if self.files.get("k").is_some() {
+        if self.guests.files.get("k").is_some() {
             return Ok(());
         }
         self.add_spares(words, turns, answer)
@@ -152,9 +125,9 @@ impl<'a> Case<'a> {
         turns: Turns<'a>,
         answer: &mut Answer,
     ) -> Result<(), NoMemory> {
-        for index in 0..self.configuration.spares() {
-            if let Some(spare) = self.configuration.spare(index) {
-                let text = self.configuration.text_with_spare(turns, spare)?;
+        for index in 0..self.guests.configuration.spares() {
+            if let Some(spare) = self.guests.configuration.spare(index) {
+                let text = self.guests.configuration.text_with_spare(turns, spare)?;
                 let form = Form::Spare(spare);
                 self.add_run(Run { words, turns, form }, text.as_bytes(), answer)?;
             }
@@ -168,17 +141,22 @@ impl<'a> Case<'a> {
         configuration: &[u8],
         answer: &mut Answer,
     ) -> Result<(), NoMemory> {
-        self.files.set_configuration(configuration)?;
-        let left = call(self.alloc, run.words, &self.files, self.script)?;
+        self.guests.files.set_configuration(configuration)?;
+        let left = call(
+            self.alloc,
+            run.words,
+            &self.guests.files,
+            self.guests.script,
+        )?;
         answer.add(run, &left)
     }
 
     // The configuration: the file `k`, if there is one, else the text with these turns.
     fn written(&self, turns: Turns<'a>) -> Result<Vec<u8>, NoMemory> {
-        match self.files.get("k") {
+        match self.guests.files.get("k") {
             Some(bytes) => Ok(Vec::from_slice(self.alloc, bytes)?),
             None => {
-                let text = self.configuration.text(turns)?;
+                let text = self.guests.configuration.text(turns)?;
                 Ok(Vec::from_slice(self.alloc, text.as_bytes())?)
             }
         }
@@ -186,8 +164,8 @@ impl<'a> Case<'a> {
 
     // How many runs are made: one where no turns are made, or where a file has the configuration.
     fn runs(&self, words: &str) -> usize {
-        if makes_turns(words) && self.files.get("k").is_none() {
-            self.configuration.runs()
+        if makes_turns(words) && self.guests.files.get("k").is_none() {
+            self.guests.configuration.runs()
         } else {
             1
         }

@@ -1,7 +1,7 @@
 // A file of cases and tables.
 
 use crate::{case, table};
-use case_files::{Block, Fault, Names, Suite, told_fault};
+use case_files::{Block, Names, Suite};
 use no_memory::NoMemory;
 use std::alloc::{AllocError, Global};
 
@@ -17,25 +17,9 @@ pub fn answers(alloc: Global, text: &str) -> Result<String, AllocError> {
 }
 
 fn put_answers(alloc: Global, text: &str, answers: &mut String) -> Result<(), NoMemory> {
-    let mut suite = Suite::new(alloc, &KINDS);
-    for line in text.lines() {
-        let taken = take(alloc, &mut suite, line, answers);
-        told_fault(taken, line, answers)?;
-    }
-    if suite.is_open() {
-        answers.push_str("fault: no end\n")?;
-    }
-    Ok(())
-}
-
-fn take<'a>(
-    alloc: Global,
-    suite: &mut Suite<'a>,
-    line: &'a str,
-    answers: &mut String,
-) -> Result<(), Fault> {
-    if let Some(block) = suite.take(line)? {
-        answer(alloc, suite.names(), &block, answers)?;
+    let suite = Suite::of(alloc, &KINDS, text, answers)?;
+    for block in suite.blocks() {
+        answer(alloc, suite.names(), block, answers)?;
     }
     Ok(())
 }

@@ -1,25 +1,23 @@
 // A case: the guests, what gdb says about one of them, and what is answered.
 
 use crate::cuts::Cut;
-use crate::debugged::{Debugged, End, Left};
-use crate::outcome::Outcome;
+use crate::debugged::{Debugged, Left};
 use crate::rows::Rows;
-use case_files::{
-    Configuration, Fault, Files, Names, Script, number, push_shown, push_unescaped, quoted,
-};
+use case_files::{End, Fault, Guests, Names, Outcome, push_shown, push_unescaped, quoted};
 use no_memory::NoMemory;
 use std::alloc::Global;
+
+// What is counted beside the cases, by its index.
+const ROWS: usize = 1;
+
+const CUTS: usize = 2;
 
 /// What the lines of a case have said so far.
 #[derive(Drop)]
 pub struct Case<'a> {
     alloc: Global,
     name: &'a str,
-    files: Files<'a>,
-    configuration: Configuration<'a>,
-    script: Script<'a>,
-    // The instructions that are not assembled yet.
-    code: Vec<&'a str>,
+    guests: Guests<'a>,
     words: &'a str,
     description: Vec<u8>,
     rows: Rows<'a>,
@@ -33,33 +31,26 @@ impl<'a> Case<'a> {
         Ok(Case {
             alloc,
             name,
-            files: Files::new(alloc),
-            configuration: Configuration::new(alloc)?,
-            script: Script::new(),
-            code: Vec::new(alloc),
+            guests: Guests::new(alloc)?,
             words: "nesthv-gdb k 0",
             description: Vec::new(alloc),
             rows: Rows::new(alloc),
-            end: End {
-                status: 0,
-                line: "",
-            },
+            end: End::done(),
             is_cut: false,
         })
     }
 
     /// Takes a line.
     pub fn take(&mut self, names: &Names<'_>, line: &'a str) -> Result<(), Fault> {
-        if line.starts_with(' ') {
-            self.code.push(line.trim())?;
-            return Ok(());
-        }
-        self.assemble()?;
-        let (word, rest) = line.split_once(' ').unwrap_or((line, ""));
-        if self.rows.obey(line)? || self.obeys(names, word, rest)? {
-            Ok(())
-        } else {
-            Err(Fault::Line)
+        match self.guests.take(line)? {
+            None => Ok(()),
+            Some((word, rest)) => {
+                if self.rows.obey(line)? || self.obeys(names, word, rest)? {
+                    Ok(())
+                } else {
+                    Err(Fault::Line)
+                }
+            }
         }
     }
 
@@ -67,50 +58,24 @@ impl<'a> Case<'a> {
         match word {
             "words" => self.words = rest,
             "description" => self.describe(rest)?,
-            "ends" => self.end = end_in(rest).ok_or(Fault::Line)?,
+            "ends" => self.end = End::of(rest).ok_or(Fault::Line)?,
             "cut" => self.is_cut = true,
-            _ => return self.sets(names, word, rest),
+            _ => return self.guests.obey(names, word, rest),
         }
         Ok(true)
-    }
-
-    fn sets(&mut self, names: &Names<'_>, word: &str, rest: &'a str) -> Result<bool, Fault> {
-        if self.files.obey(names, word, rest)? {
-            return Ok(true);
-        }
-        if self.configuration.obey(word, rest)? {
-            return Ok(true);
-        }
-        self.script.obey(word, rest)
     }
 
     fn describe(&mut self, text: &str) -> Result<(), Fault> {
         push_unescaped(&mut self.description, quoted(text).ok_or(Fault::Line)?)
     }
 
-    // Appends the instructions to the file at hand.
-    fn assemble(&mut self) -> Result<(), Fault> {
-        let assembled = self.files.push_code(self.code.as_slice());
-        self.code.clear();
-        assembled
-    }
-
     /// Talks, whole and cut, and tells where what is answered differs.
     pub fn end(&mut self, outcome: &mut Outcome) -> Result<(), Fault> {
-        self.assemble()?;
-        self.configure()?;
+        self.guests.assemble()?;
+        self.guests.configure()?;
         let differs = self.tell_whole(&mut outcome.text)? || self.tell_cuts(outcome)?;
-        outcome.count(self.rows.rows.len(), differs);
-        Ok(())
-    }
-
-    // The configuration: the file `k`, if there is one.
-    fn configure(&mut self) -> Result<(), Fault> {
-        let turns = self.configuration.run(0).ok_or(Fault::Line)?;
-        let text = self.configuration.text(turns)?;
-        let written = self.files.get("k").unwrap_or(text.as_bytes());
-        let written = Vec::from_slice(self.alloc, written)?;
-        self.files.set_configuration(written.as_slice())?;
+        outcome.count(differs);
+        outcome.add(ROWS, self.rows.rows.len());
         Ok(())
     }
 
@@ -118,8 +83,8 @@ impl<'a> Case<'a> {
         Debugged {
             words: self.words,
             description: self.description.as_slice(),
-            files: &self.files,
-            script: self.script,
+            files: &self.guests.files,
+            script: self.guests.script,
         }
     }
 
@@ -129,7 +94,7 @@ impl<'a> Case<'a> {
         if self.tell_row(&left, text)? {
             return Ok(true);
         }
-        if left.is_ended(self.end) && self.is_left(&left) {
+        if self.end.is(left.status(), left.err()) && self.is_left(&left) {
             return Ok(false);
         }
         let (status, came) = (left.status(), left.connection.came());
@@ -204,7 +169,7 @@ impl<'a> Case<'a> {
     }
 
     fn tell_cut(&self, cut: Cut, outcome: &mut Outcome) -> Result<bool, NoMemory> {
-        outcome.count_cut();
+        outcome.add(CUTS, 1);
         if cut.is_right(self.alloc, &self.debugged(), &self.rows)? {
             return Ok(false);
         }
@@ -213,13 +178,6 @@ impl<'a> Case<'a> {
         outcome.text.push('\n')?;
         Ok(true)
     }
-}
-
-// `STATUS` or `STATUS LINE`.
-fn end_in(text: &str) -> Option<End<'_>> {
-    let (status, line) = text.split_once(' ').unwrap_or((text, ""));
-    let status = number(status)?;
-    Some(End { status, line })
 }
 
 // The bytes from one place to another.

@@ -1,8 +1,9 @@
 // Talks that are cut.
 
 use crate::connection::Course;
-use crate::debugged::{Debugged, End, Left};
+use crate::debugged::{Debugged, Left};
 use crate::rows::Rows;
+use case_files::End;
 use no_memory::NoMemory;
 use std::alloc::Global;
 
@@ -93,7 +94,8 @@ impl Cut {
         rows: &Rows<'_>,
     ) -> Result<bool, NoMemory> {
         let left = debugged.talk(alloc, self.course(rows))?;
-        Ok(left.is_ended(self.end(rows)) && self.allows(rows, &left))
+        let end = self.end(rows);
+        Ok(end.is(left.status(), left.err()) && self.allows(rows, &left))
     }
 }
 

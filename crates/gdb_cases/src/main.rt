@@ -6,7 +6,6 @@ mod case;
 mod connection;
 mod cuts;
 mod debugged;
-mod outcome;
 mod rows;
 mod suite;
 

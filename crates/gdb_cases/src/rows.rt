@@ -122,8 +122,8 @@ impl<'a> Rows<'a> {
         }
     }
 
-    /// Whether this is what is answered when no more than a number of bytes comes: all to the rows that have come
-    /// whole, and of a row that has not, nothing of a packet and a front of any other.
+    /// Whether this is what is answered when no more than a number of bytes comes: all to the rows that have
+    /// come whole, and of a row that has not, nothing of a packet and a front of any other.
     pub fn allow(&self, coming: usize, said: &[u8]) -> bool {
         let mut least = 0;
         for row in self.rows.as_slice() {

@@ -1,16 +1,17 @@
 // A file of cases.
 
 use crate::case::Case;
-use crate::outcome::Outcome;
-use case_files::{Block, Fault, Names, Suite, told_fault};
+use case_files::{Block, Names, Outcome, Suite, told_fault};
 use no_memory::NoMemory;
 use std::alloc::{AllocError, Global};
 
 static KINDS: [&str; 1] = ["case"];
 
+static UNITS: [&str; 3] = ["cases", "rows", "cuts"];
+
 /// A line for each case of a file that differs, and one that counts.
 pub fn told(alloc: Global, file: &str, text: &str) -> Result<String, AllocError> {
-    let mut outcome = Outcome::new(alloc);
+    let mut outcome = Outcome::new(alloc, &UNITS);
     match tell(alloc, file, text, &mut outcome) {
         Ok(()) => Ok(outcome.text),
         Err(NoMemory) => Err(AllocError),
@@ -18,27 +19,11 @@ pub fn told(alloc: Global, file: &str, text: &str) -> Result<String, AllocError>
 }
 
 fn tell(alloc: Global, file: &str, text: &str, outcome: &mut Outcome) -> Result<(), NoMemory> {
-    let mut suite = Suite::new(alloc, &KINDS);
-    for line in text.lines() {
-        let taken = take(alloc, &mut suite, line, outcome);
-        told_fault(taken, line, &mut outcome.text)?;
-    }
-    if suite.is_open() {
-        outcome.text.push_str("fault: no end\n")?;
+    let suite = Suite::of(alloc, &KINDS, text, &mut outcome.text)?;
+    for block in suite.blocks() {
+        check(alloc, suite.names(), block, outcome)?;
     }
     outcome.tell_count(file)
-}
-
-fn take<'a>(
-    alloc: Global,
-    suite: &mut Suite<'a>,
-    line: &'a str,
-    outcome: &mut Outcome,
-) -> Result<(), Fault> {
-    if let Some(block) = suite.take(line)? {
-        check(alloc, suite.names(), &block, outcome)?;
-    }
-    Ok(())
 }
 
 // Obeys the lines of a case, and has it talk.

@@ -31,21 +31,35 @@ pub fn tell_row(row: &Row<'_>, text: &mut String) -> Result<bool, Fault> {
 
 fn tell_run(row: &Row<'_>, run: &Run<'_>, text: &mut String) -> Result<bool, Fault> {
     let left = left_by(row, run)?;
-    let before = row.beginning.state();
-    if tell_stop(run, &left, text)?
-        || tell_values(row.values.as_slice(), &left.state, text)?
-        || tell_values(run.values.as_slice(), &left.state, text)?
-        || tell_places(row.places.as_slice(), &before, &left.state, text)?
-        || tell_memory(row.memory.as_slice(), &left.memory, text)?
-        || tell_pages(row, &left, text)?
-    {
-        return Ok(true);
-    }
-    if let Some(difference) = other_difference(row, run, &before, &left) {
-        text.push_str(difference)?;
+    if tell_left(row, run, &left, text)? {
         return Ok(true);
     }
     Ok(row.is_stepwise && tell_steps(row, run, &left, text)?)
+}
+
+fn tell_left(
+    row: &Row<'_>,
+    run: &Run<'_>,
+    left: &Left,
+    text: &mut String,
+) -> Result<bool, NoMemory> {
+    let before = row.beginning.state();
+    if tell_stop(run, left, text)?
+        || tell_values(row.values.as_slice(), left.state(), text)?
+        || tell_values(run.values.as_slice(), left.state(), text)?
+        || tell_places(row.places.as_slice(), &before, left.state(), text)?
+        || tell_memory(row.memory.as_slice(), &left.memory, text)?
+        || tell_pages(row, left, text)?
+    {
+        return Ok(true);
+    }
+    match other_difference(row, run, &before, left) {
+        Some(difference) => {
+            text.push_str(difference)?;
+            Ok(true)
+        }
+        None => Ok(false),
+    }
 }
 
 fn tell_stop(run: &Run<'_>, left: &Left, text: &mut String) -> Result<bool, NoMemory> {
@@ -60,9 +74,9 @@ fn tell_stop(run: &Run<'_>, left: &Left, text: &mut String) -> Result<bool, NoMe
 
 fn tell_pages(row: &Row<'_>, left: &Left, text: &mut String) -> Result<bool, NoMemory> {
     match &row.pages {
-        Some(pages) if !have_pages(left.state.first.as_slice(), pages.as_slice()) => {
+        Some(pages) if !have_pages(left.state().first.as_slice(), pages.as_slice()) => {
             text.push_str("other pages are cached:")?;
-            for entry in left.state.first.as_slice() {
+            for entry in left.state().first.as_slice() {
                 write!(text, " 0x{:x}", entry.page)?;
             }
             Ok(true)
@@ -91,13 +105,14 @@ fn other_difference(
     left: &Left,
 ) -> Option<&'static str> {
     let makes_none = run.stop.taken == 0;
-    if left.state.reservation != row.reservation {
+    let (state, trace) = (left.state(), left.tally.trace());
+    if state.reservation != row.reservation {
         Some("another reservation")
-    } else if makes_none && !are_same(before, &left.state) {
+    } else if makes_none && !are_same(before, state) {
         Some("the state has changed by no step")
-    } else if makes_none && left.trace != 0 || !is_traced(row.trace, left.trace) {
+    } else if makes_none && trace != 0 || !is_traced(row.trace, trace) {
         Some("another trace")
-    } else if left.entries != 1 || left.taken != run.stop.taken {
+    } else if left.tally.entries() != 1 || left.tally.taken() != run.stop.taken {
         Some("another count")
     } else {
         None
@@ -119,8 +134,8 @@ fn tell_steps(
 ) -> Result<bool, Fault> {
     let steps = left_stepwise(row, run)?;
     if steps.stop == whole.stop
-        && are_same(&steps.state, &whole.state)
-        && steps.trace == whole.trace
+        && are_same(steps.state(), whole.state())
+        && steps.tally.trace() == whole.tally.trace()
         && is_same_memory(&steps.memory, &whole.memory)
     {
         return Ok(false);

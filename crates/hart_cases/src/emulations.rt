@@ -146,10 +146,8 @@ fn accessed(
     }
     match op {
         Op::GuestLoad { .. } | Op::GuestFetch { .. } | Op::GuestStore { .. } => {
-            match hlv_hsv::access(memory, state, op, has_page, console) {
-                hlv_hsv::Accessed::Done => Some(Emulated::Done),
-                hlv_hsv::Accessed::Raise(trap) => Some(Emulated::Raise(trap)),
-            }
+            let accessed = hlv_hsv::access(memory, state, op, has_page, console);
+            Some(end_of(accessed))
         }
         _ => None,
     }
@@ -161,11 +159,18 @@ fn emulated(state: &mut Virtual, op: Op) -> Option<Emulated> {
         return None;
     }
     match op {
-        Op::Csr { .. } | Op::Sret => match hcsr_emulation::access(state, op) {
-            Accessed::Done => Some(Emulated::Done),
-            Accessed::Raise(trap) => Some(Emulated::Raise(trap)),
-        },
+        Op::Csr { .. } | Op::Sret => {
+            let accessed = hcsr_emulation::access(state, op);
+            Some(end_of(accessed))
+        }
         _ => Some(emulate(state, op)),
+    }
+}
+
+fn end_of(accessed: Accessed) -> Emulated {
+    match accessed {
+        Accessed::Done => Emulated::Done,
+        Accessed::Raise(trap) => Emulated::Raise(trap),
     }
 }
 
@@ -217,8 +222,8 @@ fn tell_state(
     }
 }
 
-// The state that an instruction leaves: pc goes on but where it traps or wants an access, and nothing else has
-// changed but what is told.
+// The state that an instruction leaves: pc goes on but where it traps or wants an access, and nothing else
+// has changed but what is told.
 fn left_by(wanted: &Emulation<'_>, before: &Virtual) -> Virtual {
     let mut state = *before;
     match wanted.end {

@@ -7,7 +7,6 @@ mod devices;
 mod differences;
 mod emulations;
 mod endings;
-mod outcome;
 mod row;
 mod runs;
 mod suite;

@@ -154,21 +154,9 @@ impl<'a> Row<'a> {
         Ok(())
     }
 
-    // `INSTRUCTION : STOP` or `INSTRUCTION : STOP then PLACE TERM ..`.
     fn add_try(&mut self, names: &Names<'_>, text: &'a str) -> Result<(), Fault> {
-        let (line, rest) = text.split_once(" : ").ok_or(Fault::Line)?;
-        let line = line.trim();
-        let (stop, left) = rest.split_once(" then ").unwrap_or((rest, ""));
-        let stop = stop_in(self.alloc, names, stop)?;
-        let mut values = Vec::new(self.alloc);
-        push_values(&mut values, names, left)?;
-        let tried = words(self.alloc, &[line])?.as_slice().first().copied();
-        self.runs.push(Run {
-            line,
-            tried,
-            stop,
-            values,
-        })?;
+        let run = run_in(self.alloc, names, text)?;
+        self.runs.push(run)?;
         Ok(())
     }
 
@@ -201,4 +189,21 @@ impl<'a> Row<'a> {
         }
         Ok(())
     }
+}
+
+// `INSTRUCTION : STOP` or `INSTRUCTION : STOP then PLACE TERM ..`.
+fn run_in<'a>(alloc: Global, names: &Names<'_>, text: &'a str) -> Result<Run<'a>, Fault> {
+    let (line, rest) = text.split_once(" : ").ok_or(Fault::Line)?;
+    let line = line.trim();
+    let (stop, left) = rest.split_once(" then ").unwrap_or((rest, ""));
+    let stop = stop_in(alloc, names, stop)?;
+    let mut values = Vec::new(alloc);
+    push_values(&mut values, names, left)?;
+    let tried = words(alloc, &[line])?.as_slice().first().copied();
+    Ok(Run {
+        line,
+        tried,
+        stop,
+        values,
+    })
 }

@@ -12,21 +12,14 @@ pub const MOST: u64 = 100;
 #[derive(Drop)]
 pub struct Left {
     pub stop: Stop,
-    pub state: Virtual,
+    pub hart: Hart,
     pub memory: PhysMem,
-    pub entries: u64,
-    pub taken: u64,
-    pub trace: u64,
+    pub tally: Tally,
 }
 
-fn ended(stop: Stop, hart: &Hart, memory: PhysMem, tally: &Tally) -> Left {
-    Left {
-        stop,
-        state: hart.state().virt,
-        memory,
-        entries: tally.entries(),
-        taken: tally.taken(),
-        trace: tally.trace(),
+impl Left {
+    pub fn state(&self) -> &Virtual {
+        &self.hart.state().virt
     }
 }
 
@@ -37,7 +30,12 @@ pub fn left_by(row: &Row<'_>, run: &Run<'_>) -> Result<Left, Fault> {
     let mut tally = Tally::new();
     let limit = row.limit.min(MOST);
     let stop = hart.run(&mut memory, limit, row.is_watched, &mut tally);
-    Ok(ended(stop, &hart, memory, &tally))
+    Ok(Left {
+        stop,
+        hart,
+        memory,
+        tally,
+    })
 }
 
 /// What runs of one step leave.
@@ -47,19 +45,28 @@ pub fn left_stepwise(row: &Row<'_>, run: &Run<'_>) -> Result<Left, Fault> {
     let mut tally = Tally::new();
     let why = step(row, &mut hart, &mut memory, &mut tally);
     let taken = tally.taken();
-    Ok(ended(Stop { taken, why }, &hart, memory, &tally))
+    Ok(Left {
+        stop: Stop { taken, why },
+        hart,
+        memory,
+        tally,
+    })
 }
 
 // Runs of one step each, to the end.
 fn step(row: &Row<'_>, hart: &mut Hart, memory: &mut PhysMem, tally: &mut Tally) -> Why {
     for _ in 0..row.limit.min(MOST) {
-        if tally.entries() > MOST || tally.taken() > MOST {
-            return Why::Limit;
-        }
-        let stop = hart.run(memory, 1, row.is_watched, tally);
-        if stop.why != Why::Limit {
-            return stop.why;
+        let why = one_step(row.is_watched, hart, memory, tally);
+        if why != Why::Limit {
+            return why;
         }
     }
     Why::Limit
+}
+
+fn one_step(is_watched: bool, hart: &mut Hart, memory: &mut PhysMem, tally: &mut Tally) -> Why {
+    if tally.entries() > MOST || tally.taken() > MOST {
+        return Why::Limit;
+    }
+    hart.run(memory, 1, is_watched, tally).why
 }

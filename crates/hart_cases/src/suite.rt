@@ -3,10 +3,9 @@
 ghost use Rattle.std.specs.Prelude.{◌≤◌, length};
 
 use crate::differences::tell_row;
-use crate::outcome::Outcome;
 use crate::row::Row;
 use crate::runs::MOST;
-use case_files::{Block, Fault, Names, Suite};
+use case_files::{Block, Fault, Names, Outcome, Suite, told_fault};
 use no_memory::NoMemory;
 use std::alloc::{AllocError, Global};
 
@@ -14,9 +13,11 @@ static KINDS: [&str; 1] = ["rows"];
 
 const ROW: &str = "row ";
 
+static UNITS: [&str; 1] = ["rows"];
+
 /// A line for each row of a file that differs, and one that counts.
 pub fn told(alloc: Global, file: &str, text: &str) -> Result<String, AllocError> {
-    let mut outcome = Outcome::new(alloc);
+    let mut outcome = Outcome::new(alloc, &UNITS);
     match tell(alloc, file, text, &mut outcome) {
         Ok(()) => Ok(outcome.text),
         Err(NoMemory) => Err(AllocError),
@@ -24,45 +25,12 @@ pub fn told(alloc: Global, file: &str, text: &str) -> Result<String, AllocError>
 }
 
 fn tell(alloc: Global, file: &str, text: &str, outcome: &mut Outcome) -> Result<(), NoMemory> {
-    let mut suite = Suite::new(alloc, &KINDS);
-    for line in text.lines() {
-        let taken = take(alloc, file, &mut suite, line, outcome);
-        tell_fault(taken, file, line, outcome)?;
-    }
-    if suite.is_open() {
-        writeln!(outcome.text, "{file}: fault: no end")?;
+    let suite = Suite::of(alloc, &KINDS, text, &mut outcome.text)?;
+    for block in suite.blocks() {
+        let checked = check(alloc, file, suite.names(), block, outcome);
+        told_fault(checked, block.name, &mut outcome.text)?;
     }
     outcome.tell_count(file)
-}
-
-// Tells a line that no row has, and that was not obeyed.
-fn tell_fault(
-    taken: Result<(), Fault>,
-    file: &str,
-    line: &str,
-    outcome: &mut Outcome,
-) -> Result<(), NoMemory> {
-    match taken {
-        Ok(()) => Ok(()),
-        Err(Fault::NoMemory) => Err(NoMemory),
-        Err(Fault::Line) => {
-            writeln!(outcome.text, "{file}: fault: {line}")?;
-            Ok(())
-        }
-    }
-}
-
-fn take<'a>(
-    alloc: Global,
-    file: &str,
-    suite: &mut Suite<'a>,
-    line: &'a str,
-    outcome: &mut Outcome,
-) -> Result<(), Fault> {
-    if let Some(block) = suite.take(line)? {
-        check(alloc, file, suite.names(), &block, outcome)?;
-    }
-    Ok(())
 }
 
 // Runs the rows of a group. The lines before the first are of each of them.

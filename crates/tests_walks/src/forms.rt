@@ -1,20 +1,15 @@
-// HLV, HLVX and HSV as rows of tables have them, and how each ends.
+// HLV and HLVX as rows of tables have them, and how each ends.
 
 use self::End::{Done, Fault, Refused};
 use crate::states::{START, state_with};
 use arch_defs::{Mode, Reg, Trap, Virtual, Width};
-use console_dev::Console;
-use hlv_hsv::{Accessed, Op, access};
-use phys_mem::PhysMem;
-use rv64_asm::fits;
+use hlv_hsv::{Accessed, Op};
 
-/// An instruction with its address in x11: into x10, or a value from x12.
+/// An instruction with its address in x11, into x10.
 #[derive(Clone, Copy)]
 pub enum Made {
-    Hlv(Width),
     HlvUnsigned(Width),
     Hlvx(Width),
-    Hsv(Width, u64),
 }
 
 pub const HLV_BU: Made = Made::HlvUnsigned(Width::Byte);
@@ -60,23 +55,13 @@ pub fn expected(va: u64, end: End) -> Accessed {
 pub fn op_of(made: Made) -> Op {
     let (rd, rs1) = (Reg::new(10), Reg::new(11));
     match made {
-        Made::Hlv(width) => load(width, true),
-        Made::HlvUnsigned(width) => load(width, false),
-        Made::Hlvx(width) => Op::GuestFetch { width, rd, rs1 },
-        Made::Hsv(width, _) => Op::GuestStore {
+        Made::HlvUnsigned(width) => Op::GuestLoad {
             width,
+            signed: false,
+            rd,
             rs1,
-            rs2: Reg::new(12),
         },
-    }
-}
-
-fn load(width: Width, signed: bool) -> Op {
-    Op::GuestLoad {
-        width,
-        signed,
-        rd: Reg::new(10),
-        rs1: Reg::new(11),
+        Made::Hlvx(width) => Op::GuestFetch { width, rd, rs1 },
     }
 }
 
@@ -85,9 +70,6 @@ pub fn state_before(mode: Mode, given: &[(u16, u64)], row: &Row) -> Virtual {
     let mut state = state_with(mode, given);
     state.regs.x[10] = 7;
     state.regs.x[11] = row.1;
-    if let Made::Hsv(_, value) = row.0 {
-        state.regs.x[12] = value;
-    }
     state.reservation = Some((0xA000, 8));
     state
 }
@@ -99,23 +81,4 @@ pub fn state_after(mut state: Virtual, end: End) -> Virtual {
         state.regs.pc = START + 4;
     }
     state
-}
-
-/// How an access ends, of a guest that has the device page or not; None where it is no HLV, HLVX or HSV.
-pub fn ended(
-    memory: &mut PhysMem,
-    state: &mut Virtual,
-    op: Op,
-    device: bool,
-    console: &mut Console,
-) -> Option<Accessed> {
-    if !fits(&op) {
-        return None;
-    }
-    match op {
-        Op::GuestLoad { .. } | Op::GuestFetch { .. } | Op::GuestStore { .. } => {
-            Some(access(memory, state, op, device, console))
-        }
-        _ => None,
-    }
 }

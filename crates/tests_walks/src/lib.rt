@@ -1,8 +1,6 @@
-// Tests of memory, of what is kept of walks, and of accesses.
+// Tests of memory, and of what is kept of walks.
 #![tactic(auto)]
 
-#[cfg(test)]
-mod accesses;
 #[cfg(test)]
 mod buffers;
 #[cfg(test)]

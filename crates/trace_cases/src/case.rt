@@ -1,9 +1,8 @@
 // A case: the guests, the words that ask for a log of one of them, and its lines.
 
-use crate::logged::{Asked, End};
-use crate::outcome::Outcome;
+use crate::logged::Asked;
 use crate::saves::saved;
-use case_files::{Configuration, Fault, Files, Names, Script, number, push_shown};
+use case_files::{End, Fault, Guests, Names, Outcome, push_shown};
 use no_memory::NoMemory;
 use std::alloc::Global;
 
@@ -12,11 +11,7 @@ use std::alloc::Global;
 pub struct Case<'a> {
     alloc: Global,
     name: &'a str,
-    files: Files<'a>,
-    configuration: Configuration<'a>,
-    script: Script<'a>,
-    // The instructions that are not assembled yet.
-    code: Vec<&'a str>,
+    guests: Guests<'a>,
     words: &'a str,
     log: &'a str,
     // How many lines are wanted, and their bytes.
@@ -26,6 +21,11 @@ pub struct Case<'a> {
     // Whether the stream closes behind each byte.
     is_cut: bool,
 }
+
+// What is counted beside the cases, by its index.
+const LINES: usize = 1;
+
+const CUTS: usize = 2;
 
 const WRITE_FAULT: End<'static> = End {
     status: 4,
@@ -37,34 +37,27 @@ impl<'a> Case<'a> {
         Ok(Case {
             alloc,
             name,
-            files: Files::new(alloc),
-            configuration: Configuration::new(alloc)?,
-            script: Script::new(),
-            code: Vec::new(alloc),
+            guests: Guests::new(alloc)?,
             words: "nesthv-trace k 0",
             log: "traps",
             lines: 0,
             wanted: Vec::new(alloc),
-            end: End {
-                status: 0,
-                line: "",
-            },
+            end: End::done(),
             is_cut: false,
         })
     }
 
     /// Takes a line.
     pub fn take(&mut self, names: &Names<'_>, line: &'a str) -> Result<(), Fault> {
-        if line.starts_with(' ') {
-            self.code.push(line.trim())?;
-            return Ok(());
-        }
-        self.assemble()?;
-        let (word, rest) = line.split_once(' ').unwrap_or((line, ""));
-        if self.obeys(word, rest)? || self.sets(names, word, rest)? {
-            Ok(())
-        } else {
-            Err(Fault::Line)
+        match self.guests.take(line)? {
+            None => Ok(()),
+            Some((word, rest)) => {
+                if self.obeys(word, rest)? || self.guests.obey(names, word, rest)? {
+                    Ok(())
+                } else {
+                    Err(Fault::Line)
+                }
+            }
         }
     }
 
@@ -74,7 +67,7 @@ impl<'a> Case<'a> {
             "log" => self.ask("nesthv-trace k 0", rest),
             "=" => self.want_line(rest)?,
             "save" if rest.is_empty() => self.save()?,
-            "ends" => self.end = end_in(rest).ok_or(Fault::Line)?,
+            "ends" => self.end = End::of(rest).ok_or(Fault::Line)?,
             "cut" => self.is_cut = true,
             _ => return Ok(false),
         }
@@ -95,45 +88,19 @@ impl<'a> Case<'a> {
 
     // Saves the first guest after its run, as the file `saved`.
     fn save(&mut self) -> Result<(), Fault> {
-        self.configure()?;
-        let bytes = saved(self.alloc, &self.files)?;
-        self.files.add("saved", bytes)?;
+        self.guests.configure()?;
+        let bytes = saved(self.alloc, &self.guests.files)?;
+        self.guests.files.add("saved", bytes)?;
         Ok(())
-    }
-
-    fn sets(&mut self, names: &Names<'_>, word: &str, rest: &'a str) -> Result<bool, Fault> {
-        if self.files.obey(names, word, rest)? {
-            return Ok(true);
-        }
-        if self.configuration.obey(word, rest)? {
-            return Ok(true);
-        }
-        self.script.obey(word, rest)
-    }
-
-    // Appends the instructions to the file at hand.
-    fn assemble(&mut self) -> Result<(), Fault> {
-        let assembled = self.files.push_code(self.code.as_slice());
-        self.code.clear();
-        assembled
     }
 
     /// Asks for the log, whole and cut, and tells where it differs.
     pub fn end(&mut self, outcome: &mut Outcome) -> Result<(), Fault> {
-        self.assemble()?;
-        self.configure()?;
+        self.guests.assemble()?;
+        self.guests.configure()?;
         let differs = self.tell_whole(&mut outcome.text)? || self.tell_cuts(outcome)?;
-        outcome.count(self.lines, differs);
-        Ok(())
-    }
-
-    // The configuration: the file `k`, if there is one.
-    fn configure(&mut self) -> Result<(), Fault> {
-        let turns = self.configuration.run(0).ok_or(Fault::Line)?;
-        let text = self.configuration.text(turns)?;
-        let written = self.files.get("k").unwrap_or(text.as_bytes());
-        let written = Vec::from_slice(self.alloc, written)?;
-        self.files.set_configuration(written.as_slice())?;
+        outcome.count(differs);
+        outcome.add(LINES, self.lines);
         Ok(())
     }
 
@@ -141,8 +108,8 @@ impl<'a> Case<'a> {
         Asked {
             words: self.words,
             log: self.log,
-            files: &self.files,
-            script: self.script,
+            files: &self.guests.files,
+            script: self.guests.script,
         }
     }
 
@@ -156,7 +123,7 @@ impl<'a> Case<'a> {
             text.push('\n')?;
             return Ok(true);
         }
-        if left.is_ended(self.end) {
+        if self.end.is(left.status(), left.err()) {
             return Ok(false);
         }
         write!(text, "{}: status {}: ", self.name, left.status())?;
@@ -172,22 +139,17 @@ impl<'a> Case<'a> {
             return Ok(false);
         }
         for room in 0..self.wanted.len() {
-            outcome.count_cut();
+            outcome.add(CUTS, 1);
             let left = self.asked().answer(self.alloc, room)?;
-            if !left.is_ended(WRITE_FAULT) || left.out() != &self.wanted.as_slice()[..room] {
+            if !WRITE_FAULT.is(left.status(), left.err())
+                || left.out() != &self.wanted.as_slice()[..room]
+            {
                 writeln!(outcome.text, "{}: closed behind {room} bytes", self.name)?;
                 return Ok(true);
             }
         }
         Ok(false)
     }
-}
-
-// `STATUS` or `STATUS LINE`.
-fn end_in(text: &str) -> Option<End<'_>> {
-    let (status, line) = text.split_once(' ').unwrap_or((text, ""));
-    let status = number(status)?;
-    Some(End { status, line })
 }
 
 // How many bytes are alike.

@@ -6,13 +6,6 @@ use no_memory::NoMemory;
 use std::alloc::Global;
 use trace_top::trace;
 
-/// How it ends: the status, and the line on the stream of errors, or none.
-#[derive(Clone, Copy)]
-pub struct End<'a> {
-    pub status: u64,
-    pub line: &'a str,
-}
-
 /// What it has left.
 #[derive(Drop)]
 pub struct Left {
@@ -53,11 +46,6 @@ impl Asked<'_, '_> {
 }
 
 impl Left {
-    /// Whether it has ended so.
-    pub fn is_ended(&self, end: End<'_>) -> bool {
-        self.status == end.status && is_line(self.err.bytes(), end.line)
-    }
-
     pub fn status(&self) -> u64 {
         self.status
     }
@@ -70,13 +58,5 @@ impl Left {
     /// What was put on the stream of errors.
     pub fn err(&self) -> &[u8] {
         self.err.bytes()
-    }
-}
-
-// Whether bytes are a line, or none where it is empty.
-fn is_line(bytes: &[u8], line: &str) -> bool {
-    match bytes.strip_suffix(b"\n") {
-        Some(text) => text == line.as_bytes() && !text.is_empty(),
-        None => bytes.is_empty() && line.is_empty(),
     }
 }

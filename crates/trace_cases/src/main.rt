@@ -5,7 +5,6 @@
 mod case;
 mod closing_sink;
 mod logged;
-mod outcome;
 mod saves;
 mod suite;
 

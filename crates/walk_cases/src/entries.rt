@@ -1,9 +1,8 @@
 // Entries that a walk meets, at each level of each shape.
 
-use crate::row::value_in;
 use crate::walks::{ALL, Rights, end_at, leaf, rights_in};
 use arch_defs::Access;
-use case_files::{Fault, Names};
+use case_files::{Fault, Names, value_in};
 use stage_walk::{Shape, WalkEnd};
 use std::alloc::Global;
 

@@ -1,7 +1,8 @@
-// Walks tables, and asks for what a leaf permits, as the rows of some files say, and prints where the answer is
-// another one. Standard input has the names of the files.
+// Walks tables, and asks for what a leaf permits, as the rows of some files say, and prints where the answer
+// is another one. Standard input has the names of the files.
 #![tactic(auto)]
 
+mod accesses;
 mod entries;
 mod permissions;
 mod row;

@@ -1,10 +1,14 @@
 // A row: a line that asks, and says the answer.
 
+use crate::accesses::{
+    Goal, Kind, Made, goal_in, goal_is_right, kind_in, kind_is_right, made_in, made_is_right,
+};
 use crate::entries::{Entry, Leaf, entry_in, entry_is_right, leaf_in, leaf_is_right};
 use crate::permissions::{Permission, permission_in, permission_is_right};
 use crate::walks::{Bound, Unread, bound_in, bound_is_right, unread_in, unread_is_right};
 use crate::words::{Word, word_in, word_is_right};
 use case_files::{Fault, Names};
+use no_memory::NoMemory;
 use std::alloc::Global;
 
 /// What is asked, and the answer.
@@ -16,6 +20,9 @@ pub enum Row {
     Entry(Entry),
     Permission(Permission),
     Word(Word),
+    Kind(Kind),
+    Goal(Goal),
+    Made(Made),
 }
 
 /// The row that `KIND WHAT : ANSWER` says.
@@ -28,27 +35,24 @@ pub fn row_in(alloc: Global, names: &Names<'_>, line: &str) -> Result<Row, Fault
         "leaf" => Ok(Row::Leaf(leaf_in(alloc, names, what, answer)?)),
         "entry" => Ok(Row::Entry(entry_in(alloc, names, what, answer)?)),
         "first" | "second" => Ok(Row::Permission(permission_in(kind, what, answer)?)),
+        "kind" => Ok(Row::Kind(kind_in(what, answer)?)),
+        "reaches" => Ok(Row::Goal(goal_in(alloc, names, what, answer)?)),
+        "made" => Ok(Row::Made(made_in(alloc, names, what, answer)?)),
         _ => Ok(Row::Word(word_in(alloc, names, kind, what, answer)?)),
     }
 }
 
 /// Whether the answer is the row's.
-pub fn is_right(row: &Row) -> bool {
+pub fn is_right(alloc: Global, row: &Row) -> Result<bool, NoMemory> {
     match row {
-        Row::Bound(bound) => bound_is_right(bound),
-        Row::Unread(unread) => unread_is_right(unread),
-        Row::Leaf(leaf) => leaf_is_right(leaf),
-        Row::Entry(entry) => entry_is_right(entry),
-        Row::Permission(permission) => permission_is_right(permission),
-        Row::Word(word) => word_is_right(word),
-    }
-}
-
-/// The one value of a term.
-pub fn value_in(alloc: Global, names: &Names<'_>, term: &str) -> Result<u64, Fault> {
-    let values = names.values(alloc, term)?;
-    match values.as_slice() {
-        [value] => Ok(*value),
-        _ => Err(Fault::Line),
+        Row::Bound(bound) => Ok(bound_is_right(bound)),
+        Row::Unread(unread) => Ok(unread_is_right(unread)),
+        Row::Leaf(leaf) => Ok(leaf_is_right(leaf)),
+        Row::Entry(entry) => Ok(entry_is_right(entry)),
+        Row::Permission(permission) => Ok(permission_is_right(permission)),
+        Row::Word(word) => Ok(word_is_right(word)),
+        Row::Kind(kind) => Ok(kind_is_right(kind)),
+        Row::Goal(goal) => goal_is_right(alloc, goal),
+        Row::Made(made) => made_is_right(alloc, made),
     }
 }

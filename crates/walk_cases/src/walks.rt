@@ -2,9 +2,8 @@
 
 ghost use Rattle.std.specs.Prelude.{◌==◌, ◌<◌, ◌^◌, Ok, Err, if◌then◌else◌};
 
-use crate::row::value_in;
 use arch_defs::{Access, Trap};
-use case_files::{Fault, Names};
+use case_files::{Fault, Names, value_in};
 use stage_walk::{Fetch, Shape, WalkEnd, walk};
 use std::alloc::Global;
 

@@ -1,8 +1,7 @@
 // Words of entries.
 
-use crate::row::value_in;
 use crate::walks::{Rights, rights_in};
-use case_files::{Fault, Names};
+use case_files::{Fault, Names, value_in};
 use stage_walk::{leaf_to, pointer_to, pte_of, pte_word};
 use std::alloc::Global;
 
