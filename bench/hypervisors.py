@@ -327,7 +327,7 @@ class Maker:
         assert HANDLER + 4 * len(h) <= DEEDS
 
     def constant(self, rd, value):
-        """The words that load a constant, which stands behind the code."""
+        """The words that load a constant, which stands after the code."""
         at = CONSTANTS + 8 * len(self.constants)
         self.constants.append(value)
         distance = at - (DEEDS + 4 * len(self.words))
@@ -500,7 +500,7 @@ class Maker:
             self.constant(5, value)
             self.words.append(write_csr(number, 5))
         while len(self.words) < 1700 and len(self.constants) < 3500:
-            # Where the handler goes on: behind the deed.
+            # Where the handler goes on: after the deed.
             at = len(self.words)
             self.words += [0, 0, 0]
             pick = self.first_random.random() if self.moves_pages else 1

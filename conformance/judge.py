@@ -76,7 +76,7 @@ def class_of(instruction):
 
 
 def outcome_of(values):
-    """The code of a case's trap, in decimal, of an interrupt behind `i`, or `done` where it makes its
+    """The code of a case's trap, in decimal, of an interrupt after `i`, or `done` where it makes its
     instruction."""
     cause, guest = (int(next((values[name] for name in (key, "~" + key) if name in values), "0"), 16)
                     for key in ("cause", "vscause"))

@@ -35,17 +35,17 @@ def interrupt(mode, state):
 
 
 def after_return(status):
-    """sstatus or vsstatus behind SRET, by 3.1.6.1."""
+    """sstatus or vsstatus after SRET, by 3.1.6.1."""
     return status & ~(SIE | SPP) | SPIE | (SIE if status & SPIE else 0)
 
 
 def after_trap(status, is_supervisor):
-    """sstatus or vsstatus behind a trap from this privilege, by 3.1.6.1."""
+    """sstatus or vsstatus after a trap from this privilege, by 3.1.6.1."""
     return status & ~(SIE | SPIE | SPP) | (SPIE if status & SIE else 0) | (SPP if is_supervisor else 0)
 
 
 def trapped(mode, code, state):
-    """The registers behind an exception, by 8.2.1, 8.2.2 and 8.6.2. Where it goes to VS, the handler there
+    """The registers after an exception, by 8.2.1, 8.2.2 and 8.6.2. Where it goes to VS, the handler there
     ends by ECALL."""
     values = dict(state)
     if is_virtual(mode) and state["hedeleg"] >> code & 1:
@@ -109,7 +109,7 @@ def of_vectors(words):
 
 
 def written(name, value, state):
-    """The registers of interrupts behind a write of one of them, by 4.1.3, 8.2.2, 8.2.3 and 8.2.12."""
+    """The registers of interrupts after a write of one of them, by 4.1.3, 8.2.2, 8.2.3 and 8.2.12."""
     state = dict(state)
     moved = value << 1 & state["hideleg"]
     if name == "sie":
@@ -138,7 +138,7 @@ def shown(state):
 
 def of_aliases(words):
     """A write of a register of interrupts. In VS those of S are those of VS, and an interrupt may come before
-    the write or behind it."""
+    the write or after it."""
     operation, mode, name = words[:3]
     state = told(words) | {"sstatus": 0}
     taken = interrupt(mode, state)

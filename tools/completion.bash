@@ -26,7 +26,7 @@ _nesthv_guests() {
 
 # _nesthv_words OPTIONS WORD: the options that fit, where WORD begins like one
 _nesthv_words() {
-    [[ $2 == -?* ]] && mapfile -t COMPREPLY < <(compgen -W "$1 --help" -- "$2")
+    [[ $2 == -?* ]] && mapfile -t COMPREPLY < <(compgen -W "$1 --help --version" -- "$2")
 }
 
 _nesthv_run() {
@@ -40,7 +40,7 @@ _nesthv_run() {
     --program | --input | --write) mapfile -t COMPREPLY < <(compgen -f -- "$2") && return ;;
     --seconds | --steps | --blocks | --spaces | --entries | --console) return ;;
     esac
-    if _nesthv_words "--json --expect --verdict --progress --program --quiet --raw --seconds --elf --version
+    if _nesthv_words "--json --expect --verdict --progress --program --quiet --raw --seconds --elf
         $_nesthv_image" "$2"; then
         return
     fi

@@ -36,10 +36,11 @@ nesthv-run)
     ;;
 nesthv-look)
     _arguments '--help[say what it does]' \
+        '--version[print the version]' \
         '--as[the mode of a walk]:word:(HS U VS VU)' \
         '--step[the state]:word:(end)' \
         '--svg[draw maps into this file]:file:_files' \
-        '--most[at how many entries fences drops]:word:' \
+        '--most[at how many steps fences drops]:word:' \
         '--first[end fences with the first finding]' \
         '--elf[one more ELF file with symbols]:file:_files' \
         '--json[print JSON]' \
@@ -51,6 +52,7 @@ nesthv-look)
     ;;
 nesthv-debug)
     _arguments '--help[say what it does]' \
+        '--version[print the version]' \
         '--print[print gdb'\''s command]' \
         '--gdb[the gdb to take]:word:' \
         '--stub[the nesthv-gdb to take]:file:_files' \
@@ -59,15 +61,16 @@ nesthv-debug)
     ;;
 nesthv-profile)
     _arguments '--help[say what it does]' \
+        '--version[print the version]' \
         '--callgrind[write a profile for callgrind_annotate]:file:_files' \
-        '--functions[draw the functions that made most]:file:_files' \
+        '--functions[draw the functions that executed most]:file:_files' \
         '--lcov[write coverage for genhtml]:file:_files' \
         '--exits[print a table of exits]' \
         '--timeline[write a timeline for Perfetto]:file:_files' \
         '--svg[draw the timeline into this file]:file:_files' \
         '--columns[how many columns the drawing has at most]:number:' \
         '--from[the first step]:number:' \
-        '--to[the step behind the last]:number:' \
+        '--to[the step after the last]:number:' \
         '--no-modes[do not tell VS from VU]' \
         '--log[read a log that is there]:file:_files' \
         '--trace[the nesthv-trace to take]:file:_files' \
@@ -78,6 +81,7 @@ nesthv-profile)
     ;;
 nesthv-batch)
     _arguments '--help[say what it does]' \
+        '--version[print the version]' \
         '--only[those whose name fits]:word:' \
         '--jobs[how many at a time]:word:' \
         '--seconds[the limit of one]:word:' \
@@ -94,11 +98,13 @@ nesthv-batch)
     ;;
 nesthv-inputs)
     _arguments '--help[say what it does]' \
+        '--version[print the version]' \
         '--text[make a text of a file of inputs]' \
         '*:file:_files'
     ;;
 nesthv-saved)
     _arguments '--help[say what it does]' \
+        '--version[print the version]' \
         '--console[write the bytes of the console]' \
         '--ram[write the bytes of RAM]' \
         '--raw[write control characters as they are]' \
@@ -106,6 +112,7 @@ nesthv-saved)
     ;;
 nesthv-qemu-run)
     _arguments '--help[say what it does]' \
+        '--version[print the version]' \
         '--guest[the number of the guest]:word:' \
         '--traps[print each trap]' \
         '--trace[print each block]' \

@@ -1,5 +1,5 @@
 # The environment of a guest under QEMU's `virt` machine, for tools/qemu-run: calls 0, 1, 2 and 8, the timer and the
-# inputs, in M. tools/qemu-run fills in the first doublewords, and puts the inputs behind.
+# inputs, in M. tools/qemu-run fills in the first doublewords, and puts the inputs after them.
     .option norelax
     .equ    UART, 0x10000000
     .equ    FINISH, 0x100000

@@ -17,8 +17,8 @@ def handlers_of(saved: saves.Saved) -> list[int]:
 
 
 def last_arrival(runs: guest_runs.Runs, end: int) -> int | None:
-    """The last step up to `end` behind which pc is at a handler that is set at the end; or none, where the
-    last steps have none or there is no stub."""
+    """The last step up to `end` after which pc is at a handler that is set at the end. None where the last
+    steps have none, or there is no stub."""
     saved = runs.at(end)
     handlers = handlers_of(saved)
     if saved.numbers["pc"] in handlers:
@@ -35,7 +35,7 @@ def last_arrival(runs: guest_runs.Runs, end: int) -> int | None:
 
 
 def last_between(runs: guest_runs.Runs, start: int, end: int, handlers: list[int]) -> int | None:
-    """The last step from one on, before a second one, behind which pc is one of these addresses; or none."""
+    """The last step from one on, before a second one, after which pc is one of these addresses; or none."""
     with guest_runs.Line(runs, start, runs.at(start)) as line, line.stub(end) as stub:
         stub.answers(f"Z0,{address:x},4" for address in handlers)
         if stub.monitored(f"goto {end - start}") != end - start:

@@ -1,4 +1,4 @@
-"""Follows the code of an image from its first instruction, as far as the image alone says where it goes, and
+"""Follows the code of an image from its first instruction, as far as the image alone says where it goes. It
 finds what is not an instruction of four bytes there: compressed code, or none.
 """
 import struct
@@ -49,7 +49,7 @@ class Path:
 
 
 def paths_after(path: Path, word: int) -> list[Path]:
-    """The paths that go on behind this word of a path. Where it cannot be told whether code follows, there is
+    """The paths that go on after this word of a path. Where it cannot be told whether code follows, there is
     none."""
     kind, target, source, form = word & 0x7F, word >> 7 & 31, word >> 15 & 31, word >> 12 & 7
     following = path.at + 4
@@ -72,7 +72,7 @@ def paths_after(path: Path, word: int) -> list[Path]:
         path.set(target, path.sum_of(source, signed(word >> 20, 12)) if form == 0 else None)
     elif kind in LOADS_AND_SUMS:
         path.set(target, None)
-    elif kind != 0x23 and word & 0x707F != 0x0F:  # behind FENCE.I may be code that the image does not have
+    elif kind != 0x23 and word & 0x707F != 0x0F:  # after FENCE.I may be code that the image does not have
         return []
     path.at = following
     return [path]

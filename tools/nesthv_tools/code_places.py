@@ -29,7 +29,7 @@ class Frame(NamedTuple):
     line: int
 
 
-# The place of an instruction, and behind it the places of the calls by which it was inlined, the innermost
+# The place of an instruction, and after it the places of the calls by which it was inlined, the innermost
 # first.
 Frames = tuple[Frame, ...]
 
@@ -62,7 +62,7 @@ class Code:
         return None
 
     def next_of(self, address: int) -> int | None:
-        """The address of what is executed behind an instruction, or none where that is not certain: it may
+        """The address of what is executed after an instruction, or none where that is not certain: it may
         trap, or go two ways."""
         word = self.elf.word_at(address) or 0
         if word & 0x7F in STRAIGHT:
@@ -110,7 +110,7 @@ class Code:
             yield address, known.setdefault(tuple(frames), tuple(frames))
 
     def frame_of(self, address: int, function: str, place: str) -> Frame:
-        """The frame that addr2line tells by a function and by `FILE:LINE`, with a word more behind it."""
+        """The frame that addr2line tells by a function and by `FILE:LINE`, with a word more after it."""
         file, _, rest = place.rpartition(":")
         number = rest.split(" ")[0]
         if function in ("", "??"):

@@ -1,6 +1,6 @@
-"""Looks at a run as a user would who does not know what is wrong: by its log at each trap and each entry into
-V = 1, by its last state, and at what its report rests on. What it says is what the log or a state shows; what
-it only suspects, it says is suspected.
+"""Looks at a run as a user would who does not know what is wrong. It looks at the log at each trap and
+each entry into V = 1, at the last state, and at what the report rests on. What it says is what the log or a state
+shows; what it only suspects, it says is suspected.
 """
 from collections.abc import Iterator
 from typing import Any

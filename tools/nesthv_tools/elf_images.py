@@ -100,7 +100,7 @@ def segments_of(data: bytes, header: Header) -> Iterator[Segment]:
 
 
 def headers_in(segment: Segment, header: Header) -> int:
-    """How many bytes at the start of a segment are the file's own headers, and zeros behind them. Linkers let
+    """How many bytes at the start of a segment are the file's own headers, and zeros after them. Linkers let
     the first segment begin with them, and objcopy leaves them out."""
     if segment.offset:
         return 0
@@ -156,7 +156,7 @@ def image_of(data: bytes, most: int) -> Image:
 
 def placed(data: bytes) -> bytes:
     """The bytes of an ELF file as they lie in memory, but its own headers, from its first segment on,
-    wherever that is; nothing where it is not one that can be read."""
+    wherever that is. Nothing where it is not one that can be read."""
     try:
         header = header_of(data)
         found = [without(each, headers_in(each, header)) for each in segments_of(data, header)]

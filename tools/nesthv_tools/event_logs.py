@@ -10,7 +10,7 @@ from nesthv_tools import registers, terminal
 MODES = ("HS", "U", "VS", "VU")  # in the order of counts
 KINDS = ("traps", "worlds", "calls", "fences", "fills", "stale", "steps", "counts")
 LONGEST = 320  # bytes of a line
-AT_ONCE = 1 << 20  # bytes that are read
+FEW, AT_ONCE = 1 << 12, 1 << 20  # bytes that are read behind the first line, and later
 SHOWN = 60  # characters of a text that is not a line of a log
 
 HEX, OPTIONAL, DECIMAL = "[0-9a-f]{1,16}", "(?:-|[0-9a-f]{1,16})", "(?:0|[1-9][0-9]{0,19})"
@@ -18,7 +18,7 @@ MODE, PC = "(?P<mode>HS|U|VS|VU)", "(?P<pc>[0-9a-f]{16})"
 PAGE = "[0-9a-f]{1,17}"  # an address of up to 66 bits
 CAUSE = f"(?P<cause>exception|interrupt) (?P<code>{DECIMAL})"
 LEAF = f"frame {PAGE} rights [r-][w-][x-][u-] level [0-3]"
-# What stands in a line of each kind behind the step, the mode and pc.
+# What stands in a line of each kind after the step, the mode and pc.
 FORMS = {
     "trap": f"to (?P<level>HS|VS) {CAUSE} tval (?P<tval>{HEX})"
             f"(?: gpa (?P<gpa>{OPTIONAL}) gva [01] htinst (?P<htinst>{HEX}))?",
@@ -102,7 +102,7 @@ class Access(NamedTuple):
 
 class Step(NamedTuple):
     """What the line of a step has: the word of its instruction, or none; the registers that have other values
-    behind it; and what it read and wrote."""
+    after it; and what it read and wrote."""
     word: int | None
     written: list[tuple[str, int]]
     read: Access | None
@@ -136,9 +136,18 @@ class Log:
     def wrong(self, why: str) -> Wrong:
         return Wrong(f"line {self.number} of {self.name} {why}")
 
+    def pieces(self) -> Iterator[bytes]:
+        """The bytes of the log: its first line as soon as it is there, and then more and more at once."""
+        size = FEW
+        data = self.file.readline(LONGEST)
+        while data:
+            yield data
+            data = self.file.read(size)
+            size = min(2 * size, AT_ONCE)
+
     def __iter__(self) -> Iterator[Line]:
         rest = b""
-        for data in iter(lambda: self.file.read(AT_ONCE), b""):
+        for data in self.pieces():
             data = rest + data
             end = data.rfind(b"\n") + 1
             yield from self.lines_in(data, end)
@@ -154,14 +163,14 @@ class Log:
     def found(self, form: re.Pattern[bytes]) -> Iterator[re.Match[bytes]]:
         """Where a form of whole lines is found in the log, which is not tested otherwise."""
         rest = b""
-        for data in iter(lambda: self.file.read(AT_ONCE), b""):
+        for data in self.pieces():
             data = rest + data
             end = data.rfind(b"\n") + 1
             yield from form.finditer(data, 0, end)
             rest = data[end:]
 
     def lines_in(self, data: bytes, end: int) -> Iterator[Line]:
-        """The lines of data up to `end`, which is behind a line feed."""
+        """The lines of data up to `end`, which is after a line feed."""
         at = 0
         while at < end:
             self.number += 1
@@ -176,7 +185,7 @@ class Log:
             at = until
 
     def line_of(self, text: bytes) -> Line:
-        """The line of a text, in its place behind the line before."""
+        """The line of a text, in its place after the line before."""
         kind = text[:text.find(b" ")].decode(errors="replace")
         form = LINES.get(kind)
         found = form.fullmatch(text) if form else None
@@ -188,15 +197,15 @@ class Log:
             return line
         step = int(found["step"])
         if self.counted or step < self.step:
-            raise self.wrong("stands behind the counts, which end a log" if self.counted else
+            raise self.wrong("stands after the counts, which end a log" if self.counted else
                              f"has step {step}, and a line before it has step {self.step}")
         self.step = step
         return Line(kind, step, found["mode"].decode(), found)
 
     def count(self, place: tuple[int, int, int]) -> None:
-        """Takes the place of a count, which is behind that of the count before."""
+        """Takes the place of a count, which is after that of the count before."""
         if self.counted and place <= self.counted:
-            raise self.wrong("counts a place that is not behind that of the line before")
+            raise self.wrong("counts a place that is not after that of the line before")
         self.counted = place
 
 

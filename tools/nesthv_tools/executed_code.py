@@ -9,7 +9,7 @@ from nesthv_tools.event_logs import Line
 
 KINDS = ("counts",)  # of lines that are needed
 NESTED = ("VS", "VU")
-MOST_LOST, MOST_LOST_OF = 2, 50  # instructions that may lack one behind them: 2, and one in 50
+MOST_LOST, MOST_LOST_OF = 2, 50  # instructions that may lack one after them: 2, and one in 50
 
 Costs = list[int]  # how many instructions, by mode
 
@@ -63,7 +63,7 @@ def add(costs: Costs, more: Costs) -> None:
 
 class Fit(NamedTuple):
     """How well an ELF file fits what is executed in a world: how many of the instructions it has, or none
-    where it is another file by them, and, below 0, for how many it has not the one behind them."""
+    where it is another file by them. Below 0 it tells for how many it lacks the one after them."""
     has: int
     lost: int
 
@@ -72,16 +72,16 @@ def fit_of(code: Code, times: dict[int, int]) -> Fit:
     """How well an ELF file fits. Behind an instruction that neither jumps nor traps the next one is executed;
     but where the log ends, or a mode is left for good."""
     addresses = {code.address_of(pc) for pc in times} - {None}
-    behind = [code.next_of(address) for address in addresses if address is not None]
-    known = [address for address in behind if address is not None]
+    after = [code.next_of(address) for address in addresses if address is not None]
+    known = [address for address in after if address is not None]
     lost = sum(address not in addresses for address in known)
     is_other = lost > MOST_LOST + len(known) // MOST_LOST_OF
     return Fit(0, 0) if is_other else Fit(len(addresses), -lost)
 
 
 class Executed:
-    """The costs of each instruction of each ELF file that was executed, those at each pc of which no file is
-    known, by world, and what there is to say of them."""
+    """The costs of each executed instruction of each ELF file, and those at each pc of which no file is
+    known, by world. Beside them what there is to say of them."""
 
     def __init__(self, counts: Counts, files: Files) -> None:
         self.costs: dict[Code, dict[int, Costs]] = {code: {} for code in files.all()}
@@ -113,7 +113,7 @@ class Executed:
 
 class Piece:
     """The instructions of a function, or of one call of it that was inlined, which is told by the places of
-    the calls: the first one's address, the first line, how often it was entered, and the costs of all."""
+    the calls. It has the first one's address, the first line, how often it was entered, and the costs of all."""
 
     def __init__(self, first: int, line: int, is_inlined: bool) -> None:
         self.first, self.line, self.is_inlined = first, line, is_inlined

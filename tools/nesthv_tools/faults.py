@@ -35,8 +35,8 @@ FILE_KEYS[2] = [*FILE_KEYS[1], *FILE_RANGES]
 
 
 def text_of(path: str) -> bytes | None:
-    """The bytes of the configuration at this path, as many as the program reads, or none where it is not
-    a regular file: what a pipe gives can be read once."""
+    """The bytes of the configuration at this path, as many as the program reads, or none where it is not a
+    regular file. What a pipe gives can be read once."""
     try:
         if stat.S_ISREG(os.stat(path).st_mode):
             with open(path, "rb") as file:
@@ -95,8 +95,8 @@ def image_names(document: Table | None) -> list[str | None]:
 
 
 def guest_files(document: Table | None) -> list[tuple[str, str | None]]:
-    """The files that a document's guests have, in the order in which they are read: for each what it is, in
-    words, and its name, or none where there is no text."""
+    """The files that a document's guests have, in the order in which they are read. For each it tells what it
+    is, in words, and its name, or none where there is no text."""
     files = []
     for number, guest in enumerate(guests_of(document)):
         if is_resumed(document, guest):
@@ -435,8 +435,8 @@ def unreadable(path: str) -> str:
 
 
 def explained(line: str, configuration: str, text: bytes | None, report: str | None = None) -> str:
-    """What the program's line on standard error means, for the configuration at this path with these bytes
-    (none where they are not known), and the stored report at that path, or nothing."""
+    """What the program's line on standard error means, or nothing. The configuration at this path has these
+    bytes, none where they are not known, and the stored report is at that path."""
     fault = r"nesthv: configuration fault (\d+)(?: guest (\d+))?(?: key (\w+))?(?: value (-?\d+))?$"
     if found := re.match(fault, line):
         number = int(found[1])

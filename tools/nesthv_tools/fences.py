@@ -6,7 +6,7 @@ Where nesthv-trace tells which steps use a stale translation, those for V = 1, o
 before such a use alone: at the entry into V = 1 before it, or if it was cached later, where it is used.
 
 Else they are dropped wherever there are some. Where a guest enters V = 1, those for V = 1 are dropped: of the
-second stage, and of the first under vsatp. Those of satp are dropped behind each trap that HS takes from
+second stage, and of the first under vsatp. Those of satp are dropped after each trap that HS takes from
 itself or from U, and, since a kernel may have few traps, at some steps evenly: at each where the run is
 short.
 
@@ -35,7 +35,7 @@ def without_translations(saved: saves.Saved) -> saves.Saved:
 
 
 class Drop:
-    """The run that goes on behind a step without cached translations: those for V = 1, or those of satp."""
+    """The run that goes on after a step without cached translations: those for V = 1, or those of satp."""
 
     def __init__(self, runs: guest_runs.Runs, step: int, is_of_satp: bool = False) -> None:
         self.runs, self.step, self.is_of_satp, saved = runs, step, is_of_satp, runs.at(step)
@@ -60,7 +60,7 @@ class Drop:
 
     def first_difference(self, end: int, tell: searches.Tell) -> "Difference | None":
         """The first state that differs from that of the guest's own run, as far as halves find it, with its
-        step and the states before it: the run's own, and this one's."""
+        step. The states before it are the run's own, and this one's."""
         with self.line() as line:
             def differs(step: int) -> bool:
                 return bool(state_changes.differences(self.runs.at(step), line.at(step)))
@@ -82,20 +82,20 @@ class Sweep:
     def report(self) -> bytes:
         """What comes of this run."""
         saved = self.runs.at(self.places[0])
-        for step, behind in itertools.pairwise(self.places):
+        for step, after in itertools.pairwise(self.places):
             self.tell(step, self.end)
             with guest_runs.Line(self.runs, step, without_translations(saved)) as line:
-                saved = line.at(behind)
+                saved = line.at(after)
         with guest_runs.Line(self.runs, self.places[-1], without_translations(saved)) as line:
             return line.call("run", self.runs.last).read()
 
     def drops(self) -> Iterator[Drop]:
-        """The drops, each alone, behind which the state is another one at the next of these steps."""
-        for step, behind in itertools.pairwise([*self.places, self.end]):
+        """The drops, each alone, after which the state is another one at the next of these steps."""
+        for step, after in itertools.pairwise([*self.places, self.end]):
             self.tell(step, self.end)
             drop = Drop.of_all(self.runs, step)
             with drop.line() as line:
-                if state_changes.differences(self.runs.at(behind), line.at(behind)):
+                if state_changes.differences(self.runs.at(after), line.at(after)):
                     yield drop
 
 
@@ -114,9 +114,9 @@ def used_addresses(saved: saves.Saved) -> list[tuple[int, str]]:
 
 
 def used_pages(saved: saves.Saved) -> set[Page]:
-    """What the next step uses of each stage: the guest physical pages of its first-stage entries, of pc and
-    of data, and the virtual pages that it has cached translations of the first stage for, each with whose it
-    is: hgatp, or the key of the accesses."""
+    """What the next step uses of each stage. Of the second it is the guest physical pages of its first-stage
+    entries, of pc and of data. Of the first it is the virtual pages that it has cached translations for. Each
+    is told with whose it is: hgatp, or the key of the accesses."""
     view, pages = walks.View(saved), set[Page]()
     for address, kind in used_addresses(saved):
         translation = walks.Translation(view, address)
@@ -147,7 +147,7 @@ WHO = ("with them", "without them")
 
 
 class Difference:
-    """A step from which on two runs differ, the states before it and those behind it."""
+    """A step from which on two runs differ, the states before it and those after it."""
 
     def __init__(self, step: int, before: list[saves.Saved], after: list[saves.Saved]) -> None:
         self.step, self.before, self.after = step, before, after
@@ -183,7 +183,7 @@ class Difference:
 
 def last_change(runs: guest_runs.Runs, walk: walks.Walk, step: int) -> tuple[int, int] | None:
     """The last step up to `step` that changed an entry which this walk met, as far as halves find it, and the
-    entry's place; or none where all are as at the start."""
+    entry's place. None where all are as at the start."""
     now, latest = runs.at(step), None
     for met in walk.met:
         value = now.word_at(met.place)
@@ -266,13 +266,13 @@ def evenly(places: Iterable[tuple[int, bool]], most: int) -> list[tuple[int, boo
 
 
 class Search:
-    """Drops cached translations behind a step, up to a second one, one drop at a time and at most `most` of
-    them, where that is not 0: `total` where stale translations are used, if the program tells that, else
-    wherever there are some to drop. Counts the drops, and those that change the report. `cut` is the step of
-    the first one that is left out, or none. Where the run is long, the program does not tell, and `most` is
-    0, `is_swept` says that the drops are made in one run first, and `together` has what it changes of the
-    report, where none of the drops alone changes it. With `is_spread` the places are at most
-    `most` events and as many other steps, evenly, and none is left out."""
+    """Drops cached translations after a step, up to a second one, one drop at a time and at most `most` of
+    them, where that is not 0. `total` is how many there are: where stale translations are used, if the
+    program tells that, else wherever there are some to drop. Counts the drops, and those that change the
+    report. `cut` is the step of the first one that is left out, or none. Where the run is long, the program
+    does not tell, and `most` is 0, `is_swept` says that the drops are made in one run first. `together` has
+    what that changes of the report, where none of the drops alone changes it. With `is_spread` the places are
+    at most `most` events and as many other steps, evenly, and none is left out."""
 
     def __init__(self, session: Session, start: int, end: int, most: int, is_spread: bool = False) -> None:
         self.session, self.start, self.end, self.most = session, start, end, most

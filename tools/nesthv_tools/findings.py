@@ -10,7 +10,7 @@ class Rank(enum.IntEnum):
     LOST = 2  # a register is not as it was left
     STALE = 3  # the report rests on a stale translation
     REPEATED = 4  # an interrupt comes again and again
-    LOOP = 5  # the same instructions are made again and again
+    LOOP = 5  # the same instructions are executed again and again
 
 
 class Finding(NamedTuple):
@@ -28,12 +28,12 @@ class Finding(NamedTuple):
                 "words": self.words, "shown_by": self.shown_by, "look": self.look}
 
     def lines(self, number: int) -> list[str]:
-        """As lines, behind its number in a list."""
+        """As lines, after its number in a list."""
         front = "suspected: " if self.is_suspected else ""
         return [f"{number}. {front}{self.words}", *(f"     {line}" for line in self.shown_by),
                 f"     more: {self.look}"]
 
 
 def worst_first(found: list[Finding]) -> list[Finding]:
-    """These in their order: what is only suspected stands behind what the run shows."""
+    """These in their order: what is only suspected stands after what the run shows."""
     return sorted(found, key=lambda each: (each.is_suspected, each.rank, each.step))

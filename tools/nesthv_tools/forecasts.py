@@ -1,4 +1,4 @@
-"""The state behind a step, foretold of the state before it and the registers behind it: what the step stores,
+"""The state after a step, foretold of the state before it and the registers after it: what the step stores,
 reserves, and has cached. The rules of the cached translations are those of the definition of the machine.
 """
 from collections.abc import Callable
@@ -101,7 +101,7 @@ def modified(word: int, width: int, held: int, given: int) -> int:
 
 
 def with_stored(state: saves.Saved, before: saves.Saved, word: int, access: Access) -> saves.Saved | None:
-    """A state behind an access to data that is made: what it has stored and reserved. None where it is one to
+    """A state after an access to data that is made: what it has stored and reserved. None where it is one to
     the device page."""
     answer = walks.Translation(walks.View(before), access.address).answers[access.kind]
     if answer.address is None or answer.device is not None:
@@ -126,7 +126,7 @@ def with_stored(state: saves.Saved, before: saves.Saved, word: int, access: Acce
 
 
 def forecast(before: saves.Saved, numbers: dict[str, int]) -> saves.Saved | None:
-    """The state behind a step that leaves these registers, or none where that cannot be foretold."""
+    """The state after a step that leaves these registers, or none where that cannot be foretold."""
     word, _, _ = walks.fetched(before)
     number = before.numbers
     state = before.changed({**numbers, "steps": number["steps"] + 1, "clock": number["clock"] + 1})

@@ -1,4 +1,4 @@
-"""Single steps of a guest's run by the stub nesthv-gdb, which shows the registers behind each. What a saved
+"""Single steps of a guest's run by the stub nesthv-gdb, which shows the registers after each. What a saved
 guest has beside them is foretold, and the last state of each part is compared with the program's own.
 """
 from collections.abc import Callable, Iterator
@@ -18,7 +18,7 @@ def is_same(one: saves.Saved, other: saves.Saved) -> bool:
 
 
 class Steps:
-    """The steps of a run behind a state, which a stub shows at its position 0. `saved_at` gives the
+    """The steps of a run after a state, which a stub shows at its position 0. `saved_at` gives the
     program's own state at a step."""
 
     def __init__(self, stub: stubs.Stub, saved_at: Callable[[int], saves.Saved], state: saves.Saved) -> None:
@@ -27,7 +27,7 @@ class Steps:
         self.most, self.wrong = MOST, 0
 
     def until(self, end: int) -> Iterator[saves.Saved]:
-        """The states behind this one, up to that at a step that the run makes."""
+        """The states after this one, up to that at a step that the run makes."""
         while self.step < end:
             found, is_cut = self.foretold(min(end - self.step, self.most))
             right = self.right(found) if found else []
@@ -52,7 +52,7 @@ class Steps:
         return found, False
 
     def right(self, found: list[saves.Saved]) -> list[saves.Saved]:
-        """Those of these states that are right, as far as the program's own behind them says, which is then
+        """Those of these states that are right, as far as the program's own after them says, which is then
         the last."""
         count = len(found)
         own = self.saved_at(self.step + count)

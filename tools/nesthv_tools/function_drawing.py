@@ -1,5 +1,5 @@
-"""Draws which functions made the instructions of a run, as SVG: a bar for each of those that made most, in
-the colours of the modes, and one for all others.
+"""Draws which functions executed the instructions of a run, as SVG. Each of those that executed most has a bar
+in the colours of the modes, and all others have one.
 """
 import os
 from collections import defaultdict
@@ -36,7 +36,7 @@ def functions_of(executed: Executed) -> list[Row]:
 
 
 def rows_of(executed: Executed) -> list[Row]:
-    """The functions that have a bar of their own, and behind them all others as one."""
+    """The functions that have a bar of their own, and after them all others as one."""
     functions = functions_of(executed)
     others = functions[MOST:]
     if len(others) < 2:

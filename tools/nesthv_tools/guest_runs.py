@@ -55,8 +55,9 @@ def saved_in(data: bytes, path: str) -> saves.Saved:
 
 
 class Guest:
-    """One guest of a configuration: the files that it begins with, by the names that they get here, its keys
-    in TOML, how many steps its turns have, how many it has made, and how many blocks of RAM it has."""
+    """One guest of a configuration: the files that it begins with, by the names that they get here, and its
+    keys in TOML. It also has how many steps its turns have, how many it has made, and how many blocks of RAM
+    it has."""
 
     def __init__(self, program: str, path: str, number: int) -> None:
         folder = os.path.dirname(path) or "."
@@ -275,7 +276,7 @@ class Runs:
                 yield step + before
 
     def stepped(self, start: int, end: int) -> Iterator[saves.Saved]:
-        """The states behind a step, up to a second one, by the stub."""
+        """The states after a step, up to a second one, by the stub."""
         state = self.at(start)
         with Line(self, start, state) as line, line.stub(end) as stub:
             def saved_at(step: int) -> saves.Saved:
@@ -288,8 +289,8 @@ class Runs:
 
 class Line:
     """A run that goes on from a state, which is that at a step, or from its beginning. What it comes to is
-    made from the last state before that is kept in a file: the first, or one of the few that were far from
-    the one before."""
+    made from the last state before that is kept in a file. That is the first, or one of the few that were far
+    from the one before."""
 
     def __init__(self, runs: Runs, step: int, saved: saves.Saved | None) -> None:
         self.runs, self.start = runs, step

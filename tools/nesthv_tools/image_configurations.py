@@ -9,7 +9,7 @@ from typing import NamedTuple
 
 from nesthv_tools import command_line, elf_images, endings, faults, places, progress, records, whole_files
 
-LENGTH_OF_STACK = 1 << 20  # bytes of RAM that are free behind what an ELF file has
+LENGTH_OF_STACK = 1 << 20  # bytes of RAM that are free after what an ELF file has
 FEWEST_BLOCKS = 4
 DEFAULTS = {"steps": 1_000_000_000, "spaces": 4, "entries": 128, "console": 1_048_576}
 MOST_STEPS = 1 << 43  # the list of turns is at most half of a configuration then
@@ -55,8 +55,8 @@ def options_given(options: argparse.Namespace) -> list[str]:
 
 
 def is_image(path: str) -> bool:
-    """Whether the file at this path is an ELF file or an image, and not a configuration: a regular file that
-    does not end in .toml, and ends in .bin or has a byte that no text has."""
+    """Whether the file at this path is an ELF file or an image, and not a configuration. It is a regular file
+    that does not end in .toml, and ends in .bin or has a byte that no text has."""
     try:
         if path.endswith(".toml") or not stat.S_ISREG(os.stat(path).st_mode):
             return False
@@ -104,10 +104,14 @@ def name_of(path: str) -> str:
     return re.sub(r"[^A-Za-z0-9]", "", stem)[:32] or "guest"
 
 
+def blocks_for(length: int) -> int:
+    """The blocks of RAM of a guest whose image takes this number of bytes, where none is asked for."""
+    return min(faults.MOST_BLOCKS, max(FEWEST_BLOCKS, -(-(length + LENGTH_OF_STACK) // faults.BLOCK)))
+
+
 def text_of(name: str, options: argparse.Namespace, length: int) -> str:
     """The configuration of a guest of this name, whose image takes `length` bytes of RAM."""
-    blocks = options.blocks or min(faults.MOST_BLOCKS,
-                                   max(FEWEST_BLOCKS, -(-(length + LENGTH_OF_STACK) // faults.BLOCK)))
+    blocks = options.blocks or blocks_for(length)
     given = {key: getattr(options, key) for key in DEFAULTS}
     keys = {key: DEFAULTS[key] if value is None else value for key, value in given.items()}
     steps = keys.pop("steps")

@@ -23,8 +23,8 @@ class Left(NamedTuple):
 
 
 class Entry(NamedTuple):
-    """An entry into V = 1: the state behind it, how its guest's guest was left before, if it was in these
-    steps, and how each one, by hgatp, was left last."""
+    """An entry into V = 1: the state after it, how its guest's guest was left before, if in these steps, and
+    how each one, by hgatp, was left last."""
     after: registers_at.State
     left: Left | None
     all_left: dict[int, Left]
@@ -33,7 +33,7 @@ class Entry(NamedTuple):
         return self.after.numbers["hgatp"]
 
     def step(self) -> int:
-        """The step behind which V is 1."""
+        """The step after which V is 1."""
         return self.after.numbers["steps"]
 
     def changes(self) -> list[Change]:
@@ -66,7 +66,7 @@ def with_states(runs: guest_runs.Runs, found: Iterator[logged_traps.Visit], show
 
 
 def trap_behind(runs: guest_runs.Runs, step: int) -> Trap | None:
-    """The trap that the step behind a state took."""
+    """The trap that the step after a state took."""
     return state_changes.trap_of(runs.at(step), runs.at(step + 1))
 
 
@@ -75,7 +75,7 @@ def is_call(trap: Trap | None) -> bool:
 
 
 def goes_on(before: registers_at.State, after: registers_at.State) -> bool:
-    """Whether the guest's guest goes on where it was left, or behind that instruction."""
+    """Whether the guest's guest goes on where it was left, or after that instruction."""
     return after.numbers["pc"] - before.numbers["pc"] in (0, 4)
 
 
@@ -89,8 +89,8 @@ def takes_trap(before: registers_at.State, after: registers_at.State) -> bool:
 
 
 def lost(runs: guest_runs.Runs, entry: Entry) -> list[Change]:
-    """The changes that an exit which is not a call should not have led to: the hypervisor may set what it sets,
-    let an instruction be made whose register then changes, and have the guest's guest take a trap."""
+    """The changes that an exit which is not a call should not have led to. The hypervisor may set what it
+    sets, let an instruction be made whose register then changes, and have the guest's guest take a trap."""
     if not entry.left or is_call(entry.left.trap):
         return []
     before, after = entry.left.state, entry.after

@@ -1,5 +1,5 @@
 """Single steps of a guest's run by the log of nesthv-trace: what each step writes to registers and RAM, puts,
-reads and caches. The control and status registers behind instructions and traps that may change them are
+reads and caches. The control and status registers after instructions and traps that may change them are
 shown by the stub nesthv-gdb. What a fence drops is foretold, and the last state of each part is compared with
 the program's own.
 """
@@ -27,7 +27,7 @@ class Runs(Protocol):
 
 
 class Unknown(Exception):
-    """The state behind a step is not foretold."""
+    """The state after a step is not foretold."""
 
 
 class Event:
@@ -60,7 +60,7 @@ def events_of(lines: Iterable[Line]) -> Iterator[Event]:
 
 
 class Steps(foretold_steps.Steps):
-    """The steps of a run behind a state by its log. A stub shows the state at its position 0."""
+    """The steps of a run after a state by its log. A stub shows the state at its position 0."""
 
     def __init__(self, runs: Runs, stub: stubs.Stub, saved_at: Callable[[int], saves.Saved],
                  state: saves.Saved) -> None:
@@ -94,7 +94,7 @@ class Steps(foretold_steps.Steps):
         return found, not found
 
     def shown(self, events: list[Event]) -> list[dict[str, int] | None]:
-        """What the stub shows behind each of these steps that may change more than the log tells, and behind
+        """What the stub shows after each of these steps that may change more than the log tells, and after
         the last."""
         asked = [at for at, event in enumerate(events) if event.is_of_system() or at == len(events) - 1]
         numbers: list[dict[str, int] | None] = [None] * len(events)
@@ -112,7 +112,7 @@ class Steps(foretold_steps.Steps):
 
 
 def behind(state: saves.Saved, event: Event, numbers: dict[str, int]) -> saves.Saved:
-    """The state behind a step, whose other numbers are known as far as the log does not tell them."""
+    """The state after a step, whose other numbers are known as far as the log does not tell them."""
     number = state.numbers
     written = {f"x{registers.INTEGER.index(name)}": value for name, value in event.step.written}
     made = state.changed({"steps": number["steps"] + 1, "clock": number["clock"] + 1, **written,

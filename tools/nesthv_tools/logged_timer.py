@@ -8,7 +8,7 @@ WINDOW, GROWTH = 1 << 18, 4  # steps whose log is read, and how they grow
 
 
 def settings_before(runs: guest_runs.Runs, step: int) -> Iterator[tuple[int, int]]:
-    """The calls up to a step that set the timer, the last first: the step behind each, and its moment."""
+    """The calls up to a step that set the timer, the last first: the step after each, and its moment."""
     high, size = step, WINDOW
     while high > runs.first:
         low = max(runs.first, high - size)

@@ -7,6 +7,8 @@ from nesthv_tools import event_logs, guest_runs, registers
 WINDOW, GROWTH = 1 << 16, 16  # steps in which the last trap is looked for, and how they grow
 LEVELS = {"stvec": "HS", "vstvec": "VS"}
 MOST_WORDS = 1 << 21  # steps in which the log is asked for the words of instructions
+ECALL, CALLS = 0x73, (8, 9, 10, 11)  # the word of a call, and the causes of calls
+FETCHES = (0, 1, 12, 20)  # causes of faults of a fetch
 
 
 class Trap(NamedTuple):
@@ -23,7 +25,7 @@ class Traps:
         self.lines: Iterator[event_logs.Line] = iter(())
 
     def next(self, step: int, end: int) -> Trap | None:
-        """The next trap behind this step, up to `end`, or none."""
+        """The next trap after this step, up to `end`, or none."""
         if self.place != (step, end):
             self.lines = traps_in(self.runs, step, end)
         for line in self.lines:
@@ -51,13 +53,25 @@ def traps_in(runs: guest_runs.Runs, start: int, end: int) -> Iterator[event_logs
 def with_words(runs: guest_runs.Runs, start: int, end: int) -> Iterator[tuple[event_logs.Line, int | None]]:
     """The lines of the traps, each with the word of its instruction, or none where the log does not tell
     it."""
-    kinds = ["traps", "steps"] if end - start <= MOST_WORDS else ["traps"]
+    if end - start > MOST_WORDS:
+        yield from ((line, word_by_cause(line)) for line in traps_in(runs, start, end))
+        return
     step: event_logs.Line | None = None
-    for line in runs.logged(kinds, start, end):
+    for line in runs.logged(["traps", "steps"], start, end):
         if line.kind == "step":
             step = line
         elif line.kind == "trap":
             yield line, word_of(step) if step and step.step == line.step else None
+
+
+def word_by_cause(line: event_logs.Line) -> int | None:
+    """The word of the instruction of a trap, where its cause alone tells it: a call has one word."""
+    return ECALL if line.cause() in CALLS else None
+
+
+def has_word(line: event_logs.Line) -> bool:
+    """Whether the instruction of a trap has been fetched."""
+    return not line.cause() >> 63 and line.cause() not in FETCHES
 
 
 def word_of(step: event_logs.Line) -> int | None:
@@ -75,8 +89,8 @@ def value_of(line: event_logs.Line) -> dict[str, str | int]:
 
 
 class Visit(NamedTuple):
-    """A part of a run in which V is 1: the step behind which it has become so, the last step with V = 1, and
-    the trap that ends it; none where the run ends before."""
+    """A part of a run in which V is 1: the step after which it has become so, the last step with V = 1, and
+    the trap that ends it. The trap is none where the run ends before."""
     entry: int
     left: int | None = None
     trap: dict[str, str | int] | None = None
@@ -84,8 +98,8 @@ class Visit(NamedTuple):
 
 def visits_and_traps(runs: guest_runs.Runs, start: int,
                      end: int) -> Iterator[tuple[Visit | None, int | None]]:
-    """The visits to V = 1 that begin behind a step, up to a second one, and the steps behind traps into HS
-    with V = 0, in order: each visit with no step, and each step with no visit."""
+    """The visits to V = 1 that begin after a step, up to a second one, and the steps after traps into HS
+    with V = 0. They are in order, each visit with no step, and each step with no visit."""
     visit: Visit | None = None
     for line in runs.logged(["traps", "worlds"], start, end):
         if line.kind == "enter":

@@ -12,8 +12,7 @@ from collections.abc import Iterator
 
 from nesthv_tools import command_line, endings, layout, places, programs, streams, versions, whole_files
 
-DOCUMENTS = os.path.join("share", "doc", "nesthv")
-PAGES = ("README.md", "CHANGES.md", "SECURITY.md", "docs/*.md", "docs/*.svg")
+PAGES = ("README.md", "CHANGES.md", "CONTRIBUTING.md", "SECURITY.md", "docs/*.md", "docs/*.svg")
 LEFT_OUT = ("examples/run", "examples/check", "examples/words")  # scripts of the repository
 CONTROL = """Package: nesthv
 Version: {version}
@@ -21,7 +20,8 @@ Section: otherosfs
 Priority: optional
 Architecture: amd64
 Depends: libc6 (>= 2.34), python3 (>= 3.11)
-Suggests: gdb-multiarch, gcc-riscv64-linux-gnu, qemu-system-misc | qemu-system-riscv, kcachegrind, lcov
+Suggests: gdb-multiarch, gcc-riscv64-linux-gnu, qemu-system-misc | qemu-system-riscv, valgrind, kcachegrind,
+ lcov
 Maintainer: {maintainer}
 Installed-Size: {size}
 Description: deterministic RISC-V simulator for hypervisors, proved
@@ -37,11 +37,11 @@ def documents() -> Iterator[layout.File]:
     ran = subprocess.run(words, cwd=places.TOP, stdin=subprocess.DEVNULL, stdout=subprocess.PIPE, check=True)
     for name in ran.stdout.decode().split("\0"):
         if name and name not in LEFT_OUT:
-            yield layout.copied(os.path.join(places.TOP, name), os.path.join(DOCUMENTS, name))
+            yield layout.copied(os.path.join(places.TOP, name), os.path.join(places.DOCUMENTS, name))
 
 
 def folders_of(paths: list[str]) -> list[str]:
-    """The folders of these paths, each behind the one that it is in."""
+    """The folders of these paths, each after the one that it is in."""
     found = set()
     for path in paths:
         while path := os.path.dirname(path):
@@ -126,7 +126,8 @@ def main() -> int:
     files, links = [*layout.files(program.path), *documents()], list(layout.links())
     version, seconds = versions.version(), versions.seconds()
     name = f"nesthv-{version}-x86_64-linux"
-    made = {f"{name}.tar.gz": archive(name, files, links, seconds)}
+    begin = layout.Link("README.md", os.path.join(places.DOCUMENTS, "README.md"))
+    made = {f"{name}.tar.gz": archive(name, files, [*links, begin], seconds)}
     if shutil.which("dpkg-deb"):
         made[f"nesthv_{version}_amd64.deb"] = debian_package(version, files, links, seconds)
     else:

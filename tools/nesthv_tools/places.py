@@ -6,8 +6,10 @@ PACKAGE = os.path.dirname(os.path.realpath(__file__))
 TOOLS = os.path.dirname(PACKAGE)
 TOP = os.path.dirname(TOOLS)
 DIST = os.path.join(TOP, "dist")
-EXAMPLES = os.path.join(TOP, "examples")
-IS_REPOSITORY = os.path.isdir(EXAMPLES)
+IS_REPOSITORY = os.path.isdir(os.path.join(TOP, "examples"))
+DOCUMENTS = os.path.join("share", "doc", "nesthv")  # below the prefix, where a package has put them
+EXAMPLES = os.path.join(TOP, "examples") if IS_REPOSITORY else \
+    os.path.normpath(os.path.join(TOP, "..", "..", DOCUMENTS, "examples"))
 
 
 def name() -> str:

@@ -177,7 +177,7 @@ def lines_of_walk(walk: Value, indent: int) -> Iterator[str]:
 
 
 def shown_page(frame: int) -> str:
-    """What stands behind the address of a frame that is cached, where it is the device page: a guest without
+    """What stands after the address of a frame that is cached, where it is the device page: a guest without
     the page has no such frame."""
     return "  the device page" if frame == saves.DEVICE else ""
 
@@ -225,7 +225,7 @@ def lines_of_translation(found: Value) -> list[str]:
 
 
 def by_what(answer: Value) -> str:
-    """By which cached translations an access goes, behind its address."""
+    """By which cached translations an access goes, after its address."""
     if answer["first_cached"] and answer["cached"]:
         return ", by the cached translations of both stages"
     if answer["first_cached"]:
@@ -234,7 +234,7 @@ def by_what(answer: Value) -> str:
 
 
 def line_of_device(device: Value | None) -> str:
-    """What is served at a place of the device page, behind its address."""
+    """What is served at a place of the device page, after its address."""
     return f", on the device page, offset {device['offset']:x}: {device['words']}" if device else ""
 
 

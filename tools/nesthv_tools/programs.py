@@ -96,7 +96,7 @@ def beside(name: str, program: str) -> str | None:
 
 def companion(name: str, path: str | None = None) -> str | None:
     """The path of another program, as nesthv-gdb: the one that is named, else the one beside the program that
-    NESTHV has, else that of where tools/install has put the tools, else that of dist/, else the one that rt
+    NESTHV has. Else it is that of where tools/install has put the tools, that of dist/, or the one that rt
     has built; or none."""
     if path:
         return os.path.abspath(path) if is_program(path) else None
@@ -122,8 +122,8 @@ def named(path: str) -> Program:
 
 
 def proved() -> Program | None:
-    """The proved program: of a folder where tools/install has put it, or of a repository that of dist/ where
-    it has the SHA-256 that stands beside it, else the one that `rt run` has built; or none."""
+    """The proved program of a folder where tools/install has put it. Of a repository it is that of dist/
+    where it has the SHA-256 that stands beside it, else the one that `rt run` has built; or none."""
     if is_of(INSTALLED, places.TOOLS) and is_program(INSTALLED):
         return Program(os.path.realpath(INSTALLED), True)
     path = os.path.join(places.DIST, "nesthv")

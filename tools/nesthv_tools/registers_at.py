@@ -67,7 +67,7 @@ Holds = Callable[[State], bool]
 
 
 def last_write(runs: guest_runs.Runs, holds: Holds, start: int, end: int) -> int | None:
-    """The step behind the last instruction between two steps that makes these bits of interrupts what `holds`
+    """The step after the last instruction between two steps that makes these bits of interrupts what `holds`
     asks for, where they are so at the end; or none."""
     places = list(runs.steps_of_form(WRITES, start, end))
     with shown(runs, start, end, BITS) as at:

@@ -1,5 +1,5 @@
 """Files of saved guests, as `nesthv save` writes them: 624 bytes and more of numbers and lists, and RAM
-behind them. docs/saved.md has the table. Numbers have 8 bytes, the lowest first. Files of older versions are
+after them. docs/saved.md has the table. Numbers have 8 bytes, the lowest first. Files of older versions are
 read too: the second lacks the cached translations of the first stage, and the first the number for the device
 page as well.
 """
@@ -83,7 +83,7 @@ class First(NamedTuple):
 
 
 class Ram:
-    """The bytes of RAM, behind the front of a file, which may be mapped: they are copied when they are asked
+    """The bytes of RAM, after the front of a file, which may be mapped: they are copied when they are asked
     for. Pages that differ from the file stand beside it, by their offsets."""
 
     def __init__(self, data: Bytes, front: int, pages: dict[int, bytes] | None = None) -> None:
@@ -171,7 +171,7 @@ class Saved:
         test_first(self.first)
         self.front, self.ram = reader.at, Ram(data, reader.at)
         has, ram = len(data) - self.front, self.numbers["blocks"] * BLOCK
-        demand(has == ram, f"{has:,} bytes stand behind offset {self.front:,}, and RAM has {ram:,}: it is "
+        demand(has == ram, f"{has:,} bytes stand from offset {self.front:,} on, and RAM has {ram:,}: it is "
               + ("cut" if has < ram else "too long"))
 
     def has_first(self) -> bool:
@@ -226,7 +226,7 @@ class Saved:
 
 
 def names_of(letters: bytes) -> list[str]:
-    """The names of the numbers behind these letters."""
+    """The names of the numbers after these letters."""
     return NAMES_1 if letters == LETTERS[0] else NAMES
 
 

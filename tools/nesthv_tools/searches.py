@@ -9,7 +9,7 @@ Tell = Callable[[int, int], None]
 
 AWAY = 1 << 62  # an address that no mode can fetch from
 KEPT = 4  # states, in a search
-LONG = 10000  # steps of a search, behind which its runs are compared on the way
+LONG = 10000  # steps of a search, after which its runs are compared on the way
 
 
 def narrowed(holds: Holds, low: int, high: int, width: int, tell: Tell) -> tuple[int, int]:
@@ -27,13 +27,13 @@ def narrowed(holds: Holds, low: int, high: int, width: int, tell: Tell) -> tuple
 
 def first_step(holds: Holds, low: int, high: int, tell: Tell = lambda low, high: None) -> int:
     """A step at which `holds` does, and at the one before it does not, where it holds at `high` and not at
-    `low`: the first such step where it stays once it holds."""
+    `low`. It is the first such step where it stays once it holds."""
     return narrowed(holds, low, high, 1, tell)[1]
 
 
 def last_change(holds: Holds, low: int, high: int, tell: Tell = lambda low, high: None) -> int | None:
-    """A step at which `holds` does, and at the one before it does not, where it holds at `high`: the last
-    such step, as far as it is found by going back in steps that grow, and by halves. Or none, where it holds
+    """A step at which `holds` does, and at the one before it does not, where it holds at `high`. It is the
+    last such step, as far as going back in steps that grow, and by halves, finds it. Or none, where it holds
     at `low` too."""
     before = high
     while holds(before):
@@ -44,7 +44,7 @@ def last_change(holds: Holds, low: int, high: int, tell: Tell = lambda low, high
 
 
 class Event:
-    """A trap: the step that it makes, counted from the start, and the state behind it with the tvec that was
+    """A trap: the step that it makes, counted from the start, and the state after it with the tvec that was
     planted."""
 
     def __init__(self, step: int, saved: saves.Saved) -> None:
@@ -52,8 +52,8 @@ class Event:
 
 
 class Traps:
-    """Finds the next trap without single steps. The registers of `names`, of stvec and vstvec, are planted:
-    they are set to an address that no mode can fetch from, so from the first trap on pc stays there. Up to
+    """Finds the next trap without single steps. The registers of `names`, of stvec and vstvec, are planted.
+    They are set to an address that no mode can fetch from, so from the first trap on pc stays there. Up to
     then the run is the guest's own, unless it reads or writes such a register; then the search begins anew.
     """
 
@@ -74,7 +74,7 @@ class Traps:
         return guest_runs.Line(self.runs, step, own.changed({name: AWAY for name in self.names}))
 
     def next(self, step: int, end: int) -> Event | None:
-        """The next trap behind this step, up to `end`, or none."""
+        """The next trap after this step, up to `end`, or none."""
         while step < end and not self.runs.at(step).numbers["status"]:
             with self.planted(step) as line:
                 found = self.search(line.at, step, end)
@@ -84,7 +84,7 @@ class Traps:
         return None
 
     def search(self, planted: Callable[[int], saves.Saved], step: int, end: int) -> Event | int | None:
-        """The next trap behind a step, by the planted states; or the step at which a planted register was
+        """The next trap after a step, by the planted states; or the step at which a planted register was
         used; or none up to `end`."""
         planted = functools.lru_cache(KEPT)(planted)
 

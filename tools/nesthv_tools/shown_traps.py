@@ -8,7 +8,9 @@ from nesthv_tools import (
 from nesthv_tools.presentation import Value
 from nesthv_tools.sessions import Session
 
-Places = Callable[[list[event_logs.Line]], list[int | None]]
+Worded = tuple[event_logs.Line, int | None]  # the line of a trap, and the word of its instruction
+Question = Callable[[stubs.Stub, list[tuple[int, int]]], list[int | None]]
+Told = Callable[[Question, list[event_logs.Line]], list[int | None]]
 
 AT_ONCE = 64  # traps whose places are asked for in one go
 
@@ -28,18 +30,19 @@ def short_trap(session: Session, step: int) -> tuple[Value, str]:
 
 
 def logged_traps_of(session: Session, start: int, end: int) -> Iterator[tuple[Value, str]]:
-    """The same of the traps in the log of these steps. Where an instruction has a symbol by its physical
-    address, the stub tells that, if it can, else a state."""
+    """The same of the traps in the log of these steps. Where the log does not tell the word of an
+    instruction, or it has a symbol by its physical address, the stub tells that, if it can, else a state."""
     found = logged_traps.with_words(session.runs, start, end)
     with contextlib.ExitStack() as stack:
-        places: Places | None = None
+        told = stack.enter_context(stub_about(session, start, end))
         while some := list(itertools.islice(found, AT_ONCE)):
+            if end - start > logged_traps.MOST_WORDS:
+                some = with_read_words(told, some)
             symbols = [symbol_at_virtual(session, line, word) for line, word in some]
             wanted = [at for at, symbol in enumerate(symbols) if symbol is None and some[at][1] is not None]
-            if wanted:
-                places = places or stack.enter_context(placed(session, start, end))
-                for at, place in zip(wanted, places([some[at][0] for at in wanted])):
-                    symbols[at] = symbol_at(session, *some[at], place)
+            places = told(stubs.Stub.places_at, [some[at][0] for at in wanted])
+            for at, place in zip(wanted, places):
+                symbols[at] = symbol_at(session, *some[at], place)
             for (line, word), symbol in zip(some, symbols):
                 if word is None or symbol is None:
                     yield short_trap(session, line.step + 1)
@@ -47,23 +50,34 @@ def logged_traps_of(session: Session, start: int, end: int) -> Iterator[tuple[Va
                     yield logged_trap(session, line, word, symbol)
 
 
-@contextlib.contextmanager
-def placed(session: Session, start: int, end: int) -> Iterator[Places]:
-    """What tells the physical addresses of the instructions at some traps, or none where it cannot."""
-    with contextlib.ExitStack() as stack:
-        stubs_left: list[stubs.Stub] = []
-        with contextlib.suppress(stubs.Ended):
-            line = stack.enter_context(guest_runs.Line(session.runs, start, session.runs.at(start)))
-            stubs_left.append(stack.enter_context(line.stub(end)))
+def with_read_words(told: Told, some: list[Worded]) -> list[Worded]:
+    """Lines of traps with the words of their instructions, those that are left as the stub reads them."""
+    unread = [at for at, (line, word) in enumerate(some) if word is None and logged_traps.has_word(line)]
+    words = dict(zip(unread, told(stubs.Stub.words_at, [some[at][0] for at in unread])))
+    return [(line, words.get(at, word)) for at, (line, word) in enumerate(some)]
 
-        def places(lines: list[event_logs.Line]) -> list[int | None]:
-            if stubs_left:
+
+@contextlib.contextmanager
+def stub_about(session: Session, start: int, end: int) -> Iterator[Told]:
+    """What asks the stub about the instructions at some traps, and answers none where it cannot tell. The
+    stub is started at the first question."""
+    with contextlib.ExitStack() as stack:
+        stubs_left: list[stubs.Stub | None] = [None]
+
+        def told(question: Question, lines: list[event_logs.Line]) -> list[int | None]:
+            if lines and stubs_left:
                 try:
-                    return stubs_left[0].places_at([(line.step - start, line.number("pc")) for line in lines])
+                    stub = stubs_left[0] or started()
+                    stubs_left[0] = stub
+                    return question(stub, [(line.step - start, line.number("pc")) for line in lines])
                 except stubs.Ended:
                     stubs_left.clear()
             return [None] * len(lines)
-        yield places
+
+        def started() -> stubs.Stub:
+            line = stack.enter_context(guest_runs.Line(session.runs, start, session.runs.at(start)))
+            return stack.enter_context(line.stub(end))
+        yield told
 
 
 def symbol_at_virtual(session: Session, line: event_logs.Line, word: int | None) -> str | None:

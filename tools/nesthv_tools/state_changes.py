@@ -98,8 +98,8 @@ def differences(one: saves.Saved, other: saves.Saved, ignored: Container[int] = 
 
 
 class CacheChange(NamedTuple):
-    """A cached translation that a step filled or dropped: what it did, with the register of the table where
-    that is of the first stage, and the addresses of the page and of the frame."""
+    """A cached translation that a step filled or dropped: what it did, and the addresses of the page and of
+    the frame. Of the first stage it has the register of the table too."""
 
     what: str
     page: int
@@ -118,12 +118,12 @@ def cache_changes(before: saves.Saved, after: saves.Saved) -> list[CacheChange]:
 
 
 def entries_of(saved: saves.Saved) -> set[tuple[Any, ...]]:
-    """The cached translations of the second stage, each behind no register and its key."""
+    """The cached translations of the second stage, each after no register and its key."""
     return {("", key, *entry) for key, entries in saved.spaces for entry in entries}
 
 
 def firsts_of(saved: saves.Saved) -> set[tuple[Any, ...]]:
-    """The cached translations of the first stage, each behind the register of its table."""
+    """The cached translations of the first stage, each after the register of its table."""
     return {("vsatp" if entry.v else "satp", *entry) for entry in saved.first}
 
 

@@ -16,6 +16,7 @@ MODES = {1: 0, 0: 1, 5: 2, 4: 3}  # of a saved guest, by the privilege
 CSRS = {name: csrs.NUMBERS[name.partition(".")[0]] for name in saves.REGISTERS}
 ANSWER = re.compile(rb"\$([^#]*)#..")
 PLACE = re.compile(rb"at 0x([0-9a-f]{1,16})\b")
+WORD = re.compile(rb"[0-9a-f]{8}")
 READ = 1 << 16
 GENERAL = [*(f"x{number}" for number in range(1, 32)), "pc"]  # in the order of gdb's numbers
 
@@ -71,7 +72,7 @@ class Stub:
         return [each[1] for each in found]
 
     def monitored(self, words: str) -> int:
-        """The position that the stub tells after words behind `monitor`."""
+        """The position that the stub tells in answer to words after `monitor`."""
         answer, = self.answers([monitor(words)])
         return position_in(answer)
 
@@ -96,15 +97,24 @@ class Stub:
     def places_at(self, asked: Sequence[tuple[int, int]]) -> list[int | None]:
         """The physical addresses that the tables have for virtual ones, each in the mode of the state at a
         position, or none. They are few."""
-        payloads = [monitor(words) for place, address in asked
-                    for words in (f"goto {place}", f"walk {address:#x}")]
-        answers, found = self.answers(payloads), []
-        for (place, _), told, answer in zip(asked, answers[::2], answers[1::2]):
-            if position_in(told) != place:
-                raise Ended
-            there = PLACE.search(text_in(answer))
-            found.append(int(there[1], 16) if there else None)
-        return found
+        answers = self.answers_at([(place, monitor(f"walk {address:#x}")) for place, address in asked])
+        found = [PLACE.search(text_in(answer)) for answer in answers]
+        return [int(there[1], 16) if there else None for there in found]
+
+    def words_at(self, asked: Sequence[tuple[int, int]]) -> list[int | None]:
+        """The words at virtual addresses, each in the mode of the state at a position, or none where it
+        cannot be read. They are few."""
+        answers = self.answers_at([(place, f"m{address:x},4") for place, address in asked])
+        return [int.from_bytes(bytes.fromhex(answer.decode()), "little") if WORD.fullmatch(answer) else None
+                for answer in answers]
+
+    def answers_at(self, asked: Sequence[tuple[int, str]]) -> list[bytes]:
+        """The answers to payloads, each in the state at a position."""
+        answers = self.answers(payload for place, question in asked
+                               for payload in (monitor(f"goto {place}"), question))
+        if any(position_in(told) != place for (place, _), told in zip(asked, answers[::2])):
+            raise Ended
+        return answers[1::2]
 
 
 def text_in(answer: bytes) -> bytes:
@@ -116,7 +126,7 @@ def text_in(answer: bytes) -> bytes:
 
 
 def monitor(words: str) -> str:
-    """The payload of words behind `monitor`."""
+    """The payload of words after `monitor`."""
     return f"qRcmd,{words.encode().hex()}"
 
 

@@ -40,8 +40,8 @@ class Traps:
             and self.end - group.last <= group.period
         mode, before = group.key.mode, self.runs.at(group.last)
         where = "to the end" if is_at_end else f"to step {group.last}"
-        between = f"no instruction of {mode} was made in between" if group.retries == group.count - 1 else \
-            f"the last time no instruction of {mode} was made in between"
+        between = f"{mode} executed no instruction in between" if group.retries == group.count - 1 else \
+            f"the last time {mode} executed no instruction in between"
         lines = [*self.lines_of(group.last),
                  f"{group.count:,} times from step {group.first} {where}, and {between}",
                  *self.why_again(group, before)]
@@ -51,8 +51,12 @@ class Traps:
         return Finding(Rank.STUCK if is_at_end else Rank.REPEATED, group.first, words, lines, look)
 
     def why_again(self, group: Group, before: saves.Saved) -> Iterator[str]:
-        """Why such a trap is taken again, as far as the log shows what its handler did."""
+        """Why such a trap is taken again, as far as the log shows what its handler did. One that a level
+        takes from itself may come of its handler, and the one before it tells where this began."""
         cause = group.key.cause
+        if group.key.mode == group.key.level and not cause >> 63 and group.previous is not None:
+            _, line = shown_traps.short_trap(self.session, group.previous + 1)
+            yield f"the trap before these: {line}"
         if cause == trap_groups.TIMER and group.key.level == "HS":
             yield "the interrupt stays pending while the clock is at least the timer: the handler neither " \
                 "clears sie.STIE nor sets another time"
@@ -62,7 +66,7 @@ class Traps:
             yield from why_not_mapped(self.session, before, int(page, 16), stores_in(lines))
 
     def lines_of(self, step: int) -> list[str]:
-        """The trap that the step behind a state takes, with its reasons, and where its walk ends."""
+        """The trap that the step after a state takes, with its reasons, and where its walk ends."""
         before, trap = shown_traps.trap_at(self.session, step + 1)
         lines = [f"taken at {self.session.line(before)}"]
         if trap is None:
@@ -86,7 +90,7 @@ class Traps:
 
     def is_left(self, last: Group) -> bool:
         """Whether the level that took the last trap was left for another mode, or made an SRET, as far as
-        there are few steps behind it."""
+        there are few steps after it."""
         if self.events.entered > last.last or self.end - last.last > MOST_HANDLER:
             return True
         return any(line.mode != last.key.level or logged_traps.word_of(line) == SRET
@@ -109,8 +113,8 @@ def stores_in(lines: Iterator[Line]) -> dict[int, int]:
 
 
 def why_not_mapped(session: Session, before: saves.Saved, page: int, stored: dict[int, int]) -> Iterator[str]:
-    """What the handler of a fault of a guest physical address did to the entry by which that is found, and,
-    if nothing, whether it wrote the one of the address that htval is as it stands."""
+    """What the handler of a fault of a guest physical address did to the entry by which that is found. If it
+    did nothing, whether it wrote the one of the address that htval is as it stands."""
     hgatp = before.numbers["hgatp"]
     wanted, other = place_of(before, hgatp, page), place_of(before, hgatp, page >> 2)
     if wanted in stored:

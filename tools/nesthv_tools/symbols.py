@@ -67,7 +67,7 @@ class Elf:
         return None
 
     def symbol_at(self, address: int) -> str:
-        """The last symbol that is not behind an address, with the distance."""
+        """The last symbol that is not after an address, with the distance."""
         index = bisect.bisect_right(self.places, address) - 1
         if index < 0:
             return ""

@@ -63,7 +63,7 @@ class Columns:
         return (step - self.start) // self.width
 
     def first(self, index: int) -> int:
-        """The first step of a column, or of what is behind the last one."""
+        """The first step of a column, or of what is after the last one."""
         return min(self.start + index * self.width, self.end)
 
     def add(self, row: Row, start: int, end: int) -> None:
@@ -81,7 +81,7 @@ class Columns:
         return round(index * WIDTH / len(self.rows), 2)
 
     def runs(self, chosen: list[bool]) -> list[tuple[int, int]]:
-        """The columns that are chosen, those beside each other together: the first, and that behind the
+        """The columns that are chosen, those beside each other together: the first, and that after the
         last."""
         edges = [index for index, pair in enumerate(zip([False, *chosen], [*chosen, False]))
                  if pair[0] != pair[1]]

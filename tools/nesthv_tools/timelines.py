@@ -11,8 +11,8 @@ PLACES = {"trap": "traps", "fence": "fences", "got": "inputs", "stale": "stale u
 
 
 class Visit(NamedTuple):
-    """A time in which V stays as it is: its first step, whether V is 1, hgatp of a guest's guest, or none
-    where V is 0 or the log does not tell, and by what it began, in words."""
+    """A time in which V stays as it is: its first step, whether V is 1, hgatp of a guest's guest, and by what
+    it began, in words. hgatp is none where V is 0 or the log does not tell."""
     start: int
     is_nested: bool
     hgatp: int | None
@@ -55,7 +55,7 @@ def name_of(line: Line) -> str:
 
 
 def next_visit(line: Line) -> Visit:
-    """The visit behind an entry or a way out."""
+    """The visit after an entry or a way out."""
     if line.kind == "enter":
         return Visit(line.step + 1, True, line.hgatp(), "")
     return Visit(line.step + 1, False, None, registers.cause_of(line.cause()))
@@ -104,5 +104,5 @@ class Timeline:
             self.since = end
 
     def rest(self) -> Iterator[Stretch]:
-        """The last stretch, behind the last line."""
+        """The last stretch, after the last line."""
         yield from self.stretch(self.end)

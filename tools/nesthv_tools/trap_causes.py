@@ -89,7 +89,7 @@ def conditions_of(saved: saves.Saved, cause: int, target: str) -> Iterator[tuple
 
 
 def reasons_of(session: Session, before: saves.Saved, word: int | None, trap: Trap) -> list[str]:
-    """Why the step behind this state took a trap, each a line."""
+    """Why the step after this state took a trap, each a line."""
     step = before.numbers["steps"]
     if trap["cause"] >> 63:
         return [words + (since(session, holds, step) if holds else "")

@@ -28,12 +28,13 @@ class Key(NamedTuple):
 
 
 class Group:
-    """Traps that follow each other and are the same: the steps of the first, the second and the last, how
-    many there are, how many of them were taken where no instruction had been made since the one before, and
-    the most steps from one to the next."""
+    """Traps that follow each other and are the same: the steps of the first, the second and the last, and how
+    many there are. It also has how many of them were taken where no instruction had been executed since the
+    one before, and the most steps from one to the next. `previous` is the step of the trap before them, or
+    none."""
 
-    def __init__(self, line: Line) -> None:
-        self.key, self.first, self.last = Key.of(line), line.step, line.step
+    def __init__(self, line: Line, previous: int | None = None) -> None:
+        self.key, self.first, self.last, self.previous = Key.of(line), line.step, line.step, previous
         self.second: int | None = None
         self.count, self.retries, self.period = 1, 0, 0
 
@@ -57,9 +58,9 @@ class Group:
 
 
 class Events:
-    """What the log of a run tells of its traps and of its visits to V = 1: the groups in which the run was
-    stuck, or may have been, the last group, the step of the last entry, that of the last byte that was put,
-    and by the step behind an entry how many timer interrupts VS took until it was left."""
+    """What the log of a run tells of its traps and of its visits to V = 1. It has the groups in which the run
+    was stuck, or may have been, and the last group; and the steps of the last entry and of the last byte that
+    was put. By the step after an entry it has how many timer interrupts VS took until it was left."""
 
     def __init__(self, lines: Iterable[Line]) -> None:
         self.groups: list[Group] = []
@@ -89,7 +90,7 @@ class Events:
             self.last.add(line, self.is_retry(self.last, line))
         else:
             self.keep()
-            self.last = Group(line)
+            self.last = Group(line, self.last.last if self.last else None)
 
     def is_retry(self, group: Group, line: Line) -> bool:
         """Whether the step before was an entry into V = 1, or a trap."""

@@ -20,7 +20,7 @@ def lines_at(path: str) -> list[str]:
 
 
 def value_of(lines: list[str], word: str) -> str:
-    """What stands behind this word in its line."""
+    """What stands after this word in its line."""
     return next((line.removeprefix(f"{word} ") for line in lines if line.startswith(f"{word} ")), UNKNOWN)
 
 

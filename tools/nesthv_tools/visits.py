@@ -16,9 +16,9 @@ def is_nested(saved: saves.Saved) -> bool:
 
 def visits_and_traps(runs: guest_runs.Runs, start: int, end: int,
                      tell: searches.Tell) -> Iterator[tuple[Visit | None, int | None]]:
-    """The visits to V = 1 that begin behind a step, up to a second one, and the steps behind traps into HS
-    with V = 0, in order: each visit with no step, and each step with no visit. Between two traps into HS
-    there is at most one visit."""
+    """The visits to V = 1 that begin after a step, up to a second one, and the steps after traps into HS
+    with V = 0. They are in order, each visit with no step, and each step with no visit. Between two traps
+    into HS there is at most one visit."""
     if runs.tracer:
         yield from logged_traps.visits_and_traps(runs, start, end)
     else:

@@ -1,5 +1,5 @@
-"""Walks of page tables in the RAM of a saved guest, as the guest's next access would make them: both stages,
-each entry with why it cannot be used, and the cached translations beside it, one for each stage.
+"""Walks of page tables in the RAM of a saved guest, as the guest's next access would make them. They show
+both stages, each entry with why it cannot be used, and the cached translations beside it, one for each stage.
 """
 import struct
 from collections.abc import Callable, Sequence
@@ -96,8 +96,8 @@ def right_wrong(entry: int, kind: str, mxr: bool) -> str:
 
 
 class Met:
-    """An entry that a walk met: its level, its place, its value (none where its place cannot be read), why it
-    cannot be used, and for an entry of a first stage under a second one how its place was found."""
+    """An entry that a walk met: its level, its place, its value (none where its place cannot be read), and
+    why it cannot be used. An entry of a first stage under a second one has how its place was found."""
 
     def __init__(self, level: int, place: int, value: int | None, wrong: str,
                  reached: "Second | None" = None) -> None:
@@ -306,8 +306,8 @@ def first_cached_of(saved: saves.Saved, key: Key) -> dict[int, Cached]:
 
 class Translation:
     """An address as a mode sees it: the walk of the first stage, none where that is Bare, and the cached
-    translation beside it; the second stage of what each gives, none where it gives nothing or V is 0; and the
-    answers by the kind of access."""
+    translation beside it. It has the second stage of what each gives, none where it gives nothing or V is 0,
+    and the answers by the kind of access."""
 
     def __init__(self, view: View, address: int) -> None:
         self.view, self.address, self.stale = view, address, ""

@@ -7,7 +7,7 @@ def counted(count: int, one: str, more: str = "") -> str:
 
 
 def article(words: str) -> str:
-    """Words behind `a` or `an`."""
+    """Words after `a` or `an`."""
     return f"an {words}" if words[0] in "aeiouAEIO" else f"a {words}"
 
 

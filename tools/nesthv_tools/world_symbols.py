@@ -58,7 +58,7 @@ class Lines:
 
 class Symbols:
     """The ELF file of the guest itself, or none, those of its guests, which its image has in it, and others,
-    which a user names: of guests too, or, where there is no own one, of the guest itself."""
+    which a user names. Those are of guests too, or, where there is no own one, of the guest itself."""
 
     def __init__(self, own: Code | None, nested: Iterable[Code], others: Iterable[Code]) -> None:
         given, known = list(others), list(nested)
@@ -92,8 +92,8 @@ class Symbols:
         return self.name(*addresses[0]) if addresses and mode in ("HS", "U") else None
 
     def name(self, code: Code, address: int) -> str:
-        """The function with the offset; and the file and line, where they are known, of the instruction, or
-        of the call in that function by which it was inlined, and behind it of each inlined function."""
+        """The function with the offset; and the file and line, where they are known, of the instruction.
+        Where it was inlined, they are of the call in that function, and after it of each inlined function."""
         frames = self.lines[code].of(address)
         shown = [f"{frame.function} ({os.path.basename(frame.file)}:{frame.line})" for frame in frames[:-1]]
         place = f" ({os.path.basename(frames[-1].file)}:{frames[-1].line})" if frames else ""

@@ -125,7 +125,8 @@ class DoctorTest(LookTest):
         self.put("hang.bin", struct.pack("<2I", 0x100002B7, 0x00628023))  # lui t0, 0x10000; sb t1, 0(t0)
         lines = self.lines(self.configure("hang.toml", image='"hang.bin"'), "doctor", status=1)
         self.assertEqual(lines[0], "1. HS does not go on: an instruction access fault comes again and again")
-        self.assertIn("     998 times from step 2 to the end, and no instruction of HS was made in between", lines)
+        self.assertIn("     998 times from step 2 to the end, and HS executed no instruction in between", lines)
+        self.assertTrue(lines[5].startswith("     the trap before these: 1 HS 0000000080000004  00628023"), lines)
         self.put("loop.bin", struct.pack("<2I", 0x00128293, 0xFFDFF06F))  # addi t0, t0, 1; j back
         path = self.configure("loop.toml", front="format = 2\nturns = [[0, 20000]]\n", image='"loop.bin"')
         lines = self.lines(path, "doctor", status=1)

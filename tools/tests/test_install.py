@@ -11,11 +11,11 @@ import unittest
 import unittest.mock
 
 from helper import LETTER_REPORT, TOP, ToolTest
-from nesthv_tools import layout, packages, versions
+from nesthv_tools import layout, places, versions
 
 DOCS = os.path.join(TOP, "docs")
 BUSYBOX = shutil.which("busybox")
-FIRST = os.path.join(packages.DOCUMENTS, "examples", "first")
+FIRST = os.path.join(places.DOCUMENTS, "examples", "first")
 PYTHON = "/usr/bin/python3.11"
 # Modules of Python that no tool needs.
 UNNEEDED = shutil.ignore_patterns(
@@ -77,8 +77,15 @@ class InstallTest(ToolTest):
             f"sha256 {lines_of(os.path.join(TOP, 'dist', 'nesthv.sha256'))[0].split()[0]}"])
         other = self.put("other", b"#!/bin/sh\n")
         os.chmod(other, 0o755)
-        ran = self.tool("tools/run", "--version", "--program", other)
-        self.assertIn("commit unknown", ran.stdout.decode())
+        told = self.tool("tools/run", "--version", "--program", other)
+        self.assertIn("commit unknown", told.stdout.decode())
+        for tool in layout.TOOLS:
+            told = self.tool(f"tools/{tool}", "--version", variables={"NESTHV": ""})
+            self.check_plain(told, 0)
+            self.assertEqual(told.stdout, ran.stdout, tool)
+        ran = self.tool("tools/look", "--version", variables={"NESTHV": "/none"})
+        self.check_plain(ran, 2)
+        self.check_said(ran, "/none is not a program: there is no such file")
 
 
 class PagesTest(ToolTest):
@@ -169,6 +176,7 @@ class PackageTest(ToolTest):
             members = tar.getmembers()
         self.assertEqual({(each.mtime, each.uid, each.gid, each.uname) for each in members},
                          {(versions.seconds(), 0, 0, "root")})
+        self.assertIn(os.path.join(members[0].name, "README.md"), [each.name for each in members])
         self.assertEqual({each.mode for each in members}, {0o755, 0o644, 0o777})
         self.assertEqual(os.path.basename(self.tar[0]), f"nesthv-{versions.version()}-x86_64-linux.tar.gz")
 
@@ -198,9 +206,9 @@ class PackageTest(ToolTest):
 
     def check_run(self, root, folder, first):
         """Runs the program, and with Python the tools, in a root."""
-        for command in (["nesthv", "run"], *([["nesthv-run"], ["nesthv-run", "--verdict"]] *
-                                            os.path.exists(f"{root}{PYTHON}"))):
-            script = f"cd {first} && exec {folder}/bin/{' '.join(command)} first.toml"
+        for command in ("nesthv run first.toml", *(["nesthv-run first.toml", "nesthv-run --verdict first"] *
+                                                   os.path.exists(f"{root}{PYTHON}"))):
+            script = f"cd {first} && exec {folder}/bin/{command}"
             ran = self.tool(shutil.which("chroot"), root, BUSYBOX, "sh", "-c", script,
                             variables={"NESTHV": "", "PATH": "/bin:/usr/bin", "PYTHONPYCACHEPREFIX": ""})
             self.check_plain(ran, 0)

@@ -48,7 +48,7 @@ class MakeTest(BuildTest):
         for words, said in ((["--none"], "--none is not an option"), (["a", "b"], "it takes one folder"),
                             (["--jobs", "0"], "0 is not a number of compilers"),
                             (["--linux", "six"], "six is not a version"),
-                            (["--source"], "--source has a word")):
+                            (["--source"], "--source needs a word")):
             self.assertIn(said, self.refused(*words))
 
     def test_no_compiler(self):
@@ -61,7 +61,7 @@ class MakeTest(BuildTest):
         self.assertIn("has a space or a comma in its name", self.refused("a b", variables=variables))
         self.put("file", "")
         self.assertIn("cannot be made", self.refused("file/out", variables=variables))
-        self.assertIn("there is no file", self.refused("--source", "none", "out", variables=variables))
+        self.assertIn("cannot find the file", self.refused("--source", "none", "out", variables=variables))
 
     def test_no_space(self):
         variables = self.programs(df="echo head; echo disk 20 10 10 50% /")
@@ -82,7 +82,7 @@ class UBootTest(BuildTest):
     def test_words(self):
         for words, said in ((["--none"], "--none is not an option"), (["a", "b"], "it takes one folder"),
                             (["--jobs", "0"], "0 is not a number of compilers"),
-                            (["--source"], "--source has a word")):
+                            (["--source"], "--source needs a word")):
             self.assertIn(said, self.refused(*words))
 
     def test_no_compiler(self):
@@ -93,7 +93,7 @@ class UBootTest(BuildTest):
     def test_folders(self):
         variables = self.programs()
         self.assertIn("has a space or a comma in its name", self.refused("a b", variables=variables))
-        self.assertIn("there is no file", self.refused("--source", "none", "out", variables=variables))
+        self.assertIn("cannot find the file", self.refused("--source", "none", "out", variables=variables))
 
     def test_no_space(self):
         variables = self.programs(df="echo head; echo disk 20 10 10 50% /")

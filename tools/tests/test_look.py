@@ -35,7 +35,7 @@ def program_with_save():
 
 
 def ram_of(**words):
-    """RAM in which doublewords stand at these places, in hexadecimal behind an `at`."""
+    """RAM in which doublewords stand at these places, in hexadecimal after an `at`."""
     made = bytearray(2097152)
     for name, value in words.items():
         struct.pack_into("<Q", made, int(name[2:], 16) - 0x80000000, value)
@@ -488,7 +488,7 @@ class FakeTest(LookTest):
 
     def test_bad_words(self):
         path = self.trapping()
-        for words, said in (([path], "a command is missing behind"), ([path, "to", "5"], "to is not a command"),
+        for words, said in (([path], "a command is missing after"), ([path, "to", "5"], "to is not a command"),
                             ([path, "tarce", "5", "6"], "tarce is not a command (did you mean `trace`?)"),
                             ([path, "at"], "`at` takes 1 word"), ([path, "at", "-"], "- is not a step: give a decimal number"),
                             ([path, "1", "at", "0"], "there is no guest 1"),

@@ -181,9 +181,9 @@ class LogTest(unittest.TestCase):
                            (step + step[:-1], "x.log ends within line 2"),
                            (step + step.replace("5", "4"),
                             "line 2 of x.log has step 4, and a line before it has step 5"),
-                           (COUNTS + step, "line 10 of x.log stands behind the counts, which end a log"),
+                           (COUNTS + step, "line 10 of x.log stands after the counts, which end a log"),
                            (COUNTS + COUNTS,
-                            "line 10 of x.log counts a place that is not behind that of the line before"),
+                            "line 10 of x.log counts a place that is not after that of the line before"),
                            ("x" * 2000000, f"line 1 of x.log is not one that nesthv-trace writes: {'x' * 60}..."),
                            ("\x1b\n", r"line 1 of x.log is not one that nesthv-trace writes: \x1b")):
             with self.assertRaises(event_logs.Wrong) as raised:

@@ -99,7 +99,7 @@ class FileTest(ToolTest):
         for data, words in (
                 (b"", "it has 0 bytes, and ends within its letters"),
                 (LETTER, "so `nesthv save` has not written it"),
-                (form()[:-1], "2,097,151 bytes stand behind offset 624, and RAM has 2,097,152: it is cut"),
+                (form()[:-1], "2,097,151 bytes stand from offset 624 on, and RAM has 2,097,152: it is cut"),
                 (form() + b"\0", "it is too long"),
                 (form()[:608], "ends within spaces, which begin at offset 608"),
                 (form(blocks=33), "at offset 8 blocks is 33: it must be 1 to 32"),

@@ -7,6 +7,7 @@ import sys
 
 from unittest import mock
 
+from elf_files import elf
 from helper import LETTER, LOOP, TOOLS, TOP, ToolTest
 from nesthv_tools import programs, qemu
 
@@ -141,6 +142,14 @@ class QemuTest(ToolTest):
 
     def test_image_with_a_comma_in_its_name(self):
         self.assertEqual(self.tool("tools/qemu-run", self.put("b,c=d.bin", LETTER)).stdout, b"A")
+
+    def test_elf_file(self):
+        self.assertEqual(self.tool("tools/qemu-run", self.put("b.elf", elf())).stdout, b"A")
+        for words, said in (([self.put("c.elf", elf(flags=1))], "c.elf: it has compressed instructions"),
+                            ([self.configure(image='"b.elf"')], "the image b.elf is an ELF file")):
+            ran = self.tool("tools/qemu-run", *words)
+            self.check_plain(ran, 2)
+            self.check_said(ran, said)
 
     def test_guest_that_does_not_stop(self):
         self.put("loop.bin", LOOP)

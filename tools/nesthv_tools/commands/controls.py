@@ -95,9 +95,9 @@ def changed(text: str, changes: list[Change]) -> str:
 
 
 def path_of(file: str, text: str, place: int) -> str:
-    """By what `--only` finds the function of a file that has this place: its module and name, or for a method
-    its type, its trait with what that is of, and its name. Outside functions it is the module, and at the root
-    of a crate nothing."""
+    """By what `--only` finds the function of a file that has this place. That is its module and name, or for
+    a method its type, its trait with what that is of, and its name. Outside functions it is the module, and
+    at the root of a crate nothing."""
     module = "::".join(os.path.splitext(file)[0].split("/")[1:])
     path = [] if module in ("lib", "main") else [module]
     function = next(reversed(list(FUNCTION.finditer(text, 0, place))), None)

@@ -1,7 +1,7 @@
 """Makes a file of inputs, which `input` of a guest names in format 2, of a text; with --text a text of such a
 file. A line of the text is a moment of the guest's clock, and the bytes that come from then on, one at each
 moment: texts in double quotes, in UTF-8, with the escapes \\n, \\r, \\t, \\", \\\\ and \\xHH, and numbers
-from 0 to 255. Numbers are decimal, or hexadecimal behind 0x. What stands behind # is a comment.
+from 0 to 255. Numbers are decimal, or hexadecimal after 0x. What stands after # is a comment.
 
 No moment is less than the one before, and two lines may have the same one. Moments are below 2^62, and there
 are at most 65,536 bytes. The status is 0, or 2 where a line or a record is wrong, or a file fails: then
@@ -134,7 +134,7 @@ def shown(byte: int) -> str:
 
 
 def lines_of(pairs: Pairs) -> list[str]:
-    """The lines of a text that has these pairs. A line ends where no byte comes at the next moment, behind a
+    """The lines of a text that has these pairs. A line ends where no byte comes at the next moment, after a
     line feed, and where it is long."""
     lines, start = [], 0
     for index, (moment, byte) in enumerate(pairs):

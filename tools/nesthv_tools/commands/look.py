@@ -1,6 +1,6 @@
 """Looks at a guest of a configuration at any step of its run, which the program's `save` gives: registers
 with their fields, walks of both stages, address spaces, the first step at which something holds, each step,
-traps, where two runs differ, and whether a hypervisor lacks a fence. State N is that behind N steps; the
+traps, where two runs differ, and whether a hypervisor lacks a fence. State N is that after N steps; the
 instruction that is shown with it is the next one.
 
 commands:
@@ -24,7 +24,7 @@ commands:
   diff CONFIG2 [GUEST2]
                      a state in which two runs differ that were the same before it, and in what
   fences [FROM TO]   whether the report rests on a translation that the guest should have fenced
-  doctor             does what the list below says, and tells what it finds, the worst first
+  doctor             looks for faults by itself, and tells what it finds, the worst first
 
 where to begin, by what the report says:
   you do not know                doctor
@@ -88,7 +88,7 @@ def options_of_words() -> Namespace:
                         help="the state for `walk`, `maps` and `last-trap`; the last one if left out")
     parser.add_argument("--svg", metavar="FILE", help="`maps` writes a drawing to this file")
     parser.add_argument("--most", type=command_line.number(0, 1000000), default=0, metavar="N",
-                        help="at how many entries `fences` drops translations; at all if left out, or 0")
+                        help="at how many steps `fences` drops translations; at all if left out, or 0")
     parser.add_argument("--first", action="store_true", help="`fences` ends with the first that it finds")
     parser.add_argument("--elf", metavar="FILE", action="append", default=[],
                         help="one more ELF file with symbols, as of a nested kernel")
@@ -115,7 +115,7 @@ def split_words(words: list[str]) -> tuple[str, int, str, list[str]]:
     config, rest = words[0], words[1:]
     guest = int(rest.pop(0)) if rest and rest[0].isdecimal() and len(rest[0]) < 4 else 0
     if not rest:
-        raise sessions.Bad(f"a command is missing behind {config}: {', '.join(COUNTS)} are")
+        raise sessions.Bad(f"a command is missing after {config}: it is one of {', '.join(COUNTS)}")
     if rest[0] not in COUNTS:
         meant = command_line.meant(rest[0], COUNTS)
         raise sessions.Bad(f"{rest[0]} is not a command{meant}: {', '.join(COUNTS)} are")
@@ -239,7 +239,7 @@ def show_first(session: Session, words: list[str]) -> int:
 
 
 def show_step(session: Session, before: saves.Saved, after: saves.Saved) -> None:
-    """Shows a step by the states before and behind it."""
+    """Shows a step by the states before and after it."""
     trap = state_changes.trap_of(before, after)
     changes = [each for each in state_changes.differences(before, after) if each.name not in ("pc", "clock")]
     cached = state_changes.cache_changes(before, after)
@@ -284,7 +284,7 @@ def finder_of(session: Session) -> searches.Traps | logged_traps.Traps:
 
 
 def traps_from(session: Session, start: int, end: int) -> Iterator[int]:
-    """The steps of the traps between two steps, each that behind the trap."""
+    """The steps of the traps between two steps, each that after the trap."""
     finder = finder_of(session)
     found = finder.next(start, end)
     while found:

@@ -61,7 +61,7 @@ def add_outputs(parser: command_line.Parser) -> None:
                        help="instructions by function and line, with a cost for each mode, for kcachegrind "
                        "and callgrind_annotate")
     group.add_argument("--functions", metavar="FILE",
-                       help="a picture of the functions that made most instructions, in each mode")
+                       help="a picture of the functions that executed most instructions, in each mode")
     group.add_argument("--lcov", metavar="FILE",
                        help="coverage of the sources, by line and function, for genhtml and lcov")
     group.add_argument("--exits", action="store_true",
@@ -87,7 +87,7 @@ def options_of_words() -> Namespace:
     parser.add_argument("--from", dest="start", metavar="N", type=command_line.number(0, MOST_STEPS),
                         help="the first step of the log; 0 if left out")
     parser.add_argument("--to", dest="end", metavar="N", type=command_line.number(0, MOST_STEPS),
-                        help="the step behind its last one; the end of the run if left out")
+                        help="the step after its last one; the end of the run if left out")
     parser.add_argument("--no-modes", action="store_true",
                         help="does not tell VS from VU, and HS from U, in --timeline and --svg: their log "
                         "then has no line for each step, and is made much faster")

@@ -11,18 +11,29 @@ import tempfile
 import threading
 import time
 from argparse import Namespace
+from typing import NamedTuple
 
-from nesthv_tools import children, command_line, faults, places, qemu, records, streams, terminal
+from nesthv_tools import (
+    children, command_line, elf_images, faults, image_configurations, places, qemu, records, streams, terminal)
 
 Pairs = list[tuple[int, int]]
 
 LATE, QEMU_FAILED = 10, 11
+CONSOLE = image_configurations.DEFAULTS["console"]
 MACHINE = ["-machine", "virt", "-bios", "none", "-m", "256M", "-display", "none", "-monitor", "none"]
 say = streams.say
 
 
 class Refused(Exception):
     """Why there is no guest to run."""
+
+
+class Guest(NamedTuple):
+    """A guest: its image, its blocks of RAM, how many bytes its console holds, and its inputs."""
+    image: bytes
+    blocks: int
+    console: int
+    inputs: Pairs
 
 
 def guest_at(path: str, number: int) -> tuple[faults.Table, Pairs]:
@@ -73,27 +84,34 @@ def pairs_at(path: str) -> Pairs | None:
     return None if records.first_wrong(data) else records.pairs_of(data)
 
 
-def guest_of(name: str, number: int) -> tuple[str, int, int, Pairs]:
-    """The image, blocks, console and inputs of a guest."""
+def guest_of(name: str, number: int) -> Guest:
+    """The guest of this number of an example or a configuration, or that of an ELF file or an image."""
     example = os.path.join(places.EXAMPLES, name, f"{name}.toml")
     path = example if os.path.isfile(example) else name
-    if path.endswith(".toml"):
-        guest, inputs = guest_at(path, number)
-        image = os.path.join(os.path.dirname(path), guest["image"])
-        made = image, guest["blocks"], guest["console"], inputs
-    else:
-        made = path, 1, 1048576, []
-    if not os.path.isfile(made[0]):
-        raise Refused(f"the image {made[0]} cannot be read{faults.unreadable(made[0])}")
-    return made
+    if not path.endswith(".toml"):
+        image = image_at(path)
+        return Guest(image.data, image_configurations.blocks_for(image.length), CONSOLE, [])
+    guest, inputs = guest_at(path, number)
+    folder = os.path.dirname(path)
+    image_configurations.refuse_elf_images(folder, [guest["image"]])
+    image = image_at(os.path.join(folder, guest["image"]), guest["blocks"])
+    return Guest(image.data, guest["blocks"], guest["console"], inputs)
 
 
-def environment(blocks: int, console: int, inputs: Pairs) -> bytes:
+def image_at(path: str, blocks: int | None = None) -> elf_images.Image:
+    """The image at this path, or that of the ELF file there."""
+    if not os.path.isfile(path):
+        raise Refused(f"the image {path} cannot be read{faults.unreadable(path)}")
+    return image_configurations.image_at(path, blocks)
+
+
+def environment(guest: Guest) -> bytes:
     """The code in M, with what it is told of the guest."""
     with open(os.path.join(places.TOOLS, "qemu.bin"), "rb") as file:
         code = bytearray(file.read())
-    struct.pack_into("<QQQ", code, 8, 0x80000000 + blocks * faults.BLOCK, console, len(inputs))
-    return code + b"".join(struct.pack("<QQ", moment, byte) for moment, byte in inputs)
+    end = 0x80000000 + guest.blocks * faults.BLOCK
+    struct.pack_into("<QQQ", code, 8, end, guest.console, len(guest.inputs))
+    return code + b"".join(struct.pack("<QQ", moment, byte) for moment, byte in guest.inputs)
 
 
 def escaped(path: str) -> str:
@@ -156,7 +174,7 @@ def status_of(command: list[str], options: Namespace) -> int | None:
 def options_of_words() -> Namespace:
     parser = command_line.Parser(__doc__)
     parser.add_argument("name", metavar="NAME | PATH.toml | IMAGE",
-                        help="an example, a configuration, or the file of an image")
+                        help="an example, a configuration, or the file of an image or an ELF file")
     parser.add_argument("--guest", type=command_line.number(0, 15), default=0, metavar="G",
                         help="the number of the guest in the configuration; 0 if left out")
     parser.add_argument("--traps", action="store_true", help="prints each trap to standard error")
@@ -183,16 +201,17 @@ def main() -> int:
         say(f"there is no {qemu.QEMU} ({qemu.PACKAGE})")
         return 2
     try:
-        image, blocks, console, inputs = guest_of(options.name, options.guest)
-    except Refused as why:
+        guest = guest_of(options.name, options.guest)
+    except (Refused, image_configurations.Wrong) as why:
         say(str(why))
         return 2
     streams.check_output()
-    with tempfile.NamedTemporaryFile() as shim:
-        shim.write(environment(blocks, console, inputs))
-        shim.flush()
+    with tempfile.NamedTemporaryFile() as image, tempfile.NamedTemporaryFile() as shim:
+        for file, data in ((image, guest.image), (shim, environment(guest))):
+            file.write(data)
+            file.flush()
         begin = time.perf_counter_ns()
-        status = status_of(command_of(image, shim.name, options), options)
+        status = status_of(command_of(image.name, shim.name, options), options)
     if status is None:
         say(f"not stopped after {options.seconds:g} seconds")
         return LATE

@@ -30,13 +30,13 @@ say = streams.say
 def example_names() -> list[str]:
     names = os.listdir(places.EXAMPLES) if os.path.isdir(places.EXAMPLES) else []
     return sorted(name for name in names
-                  if os.path.isfile(os.path.join(places.EXAMPLES, name, name + ".toml")))
+                  if os.path.isfile(os.path.join(places.EXAMPLES, name, name + ".bin")))
 
 
 def parser_of_words() -> command_line.Parser:
     names = example_names()
     which = f", or the name of an example ({', '.join(names)})" if names else ""
-    parser = command_line.Parser(__doc__, USAGE)
+    parser = command_line.Parser(__doc__, USAGE, tells_version=False)
     parser.add_argument("words", metavar="WORD", nargs="*",
                         help=f"what to do, `run` if left out; CONFIG, the file of a configuration{which}, or "
                         "an ELF file or an image in place of one; "
@@ -71,9 +71,7 @@ def parser_of_words() -> command_line.Parser:
     parser.add_argument("--elf", action="store_true",
                         help="runs an image of a configuration as it is where it is an ELF file, its header "
                         "too")
-    parser.add_argument("--version", action="store_true",
-                        help="prints the version, and of the program its commit, the kit that proved it, and "
-                        "its SHA-256")
+    parser.add_argument("--version", action="store_true", help=command_line.VERSION)
     image_configurations.add_options(parser)
     return parser
 
@@ -126,6 +124,16 @@ def configuration_of(name: str) -> str | None:
     if name in example_names():
         return os.path.join(places.EXAMPLES, name, name + ".toml")
     return name if name.endswith(".toml") or os.path.exists(name) else None
+
+
+def why_no_configuration(name: str) -> str:
+    """What is wrong with a word that names no configuration."""
+    maker = os.path.join(places.EXAMPLES, name, "make")
+    if os.path.isfile(maker):
+        return f"{name} has no image here: {os.path.relpath(maker)} builds it, in a folder of yours"
+    names = example_names()
+    meant = command_line.meant(name, [*COMMANDS, *names])
+    return f"{name}: there is no such file{', nor such an example' * bool(names)}{meant}"
 
 
 def folder_of(path: str) -> str:
@@ -270,10 +278,7 @@ def main() -> int:
             return 0
         path = configuration_of(options.config)
         if path is None:
-            names = example_names()
-            meant = command_line.meant(options.config, [*COMMANDS, *names])
-            example = ", nor such an example" if names else ""
-            say(f"{options.config}: there is no such file{example}{meant}")
+            say(why_no_configuration(options.config))
             return UNUSABLE
         with image_configurations.opened(path, options) as given:
             return run_given(options, given, program)
