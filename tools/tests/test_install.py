@@ -41,6 +41,8 @@ class InstallTest(ToolTest):
         found = self.found(prefix)
         self.check_plain(self.tool("tools/install", prefix), 0)
         self.assertEqual(self.found(prefix), found)
+        for command in layout.PROGRAMS:
+            self.assertIn(f"bin/{command}", found)
         for command in layout.COMMANDS.values():
             self.assertIn(f"bin/{command}", found)
             self.assertIn(f"share/man/man1/{command}.1", found)
