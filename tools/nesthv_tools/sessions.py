@@ -53,7 +53,7 @@ class Session:
             return self.runs.last
         step = number_of(text, "step")
         if not self.runs.first <= step <= self.runs.last:
-            raise Bad(f"there is no step {step}: the guest goes from {self.runs.first} to {self.runs.last}")
+            raise Bad(f"step {step} is not in the run, which goes from {self.runs.first} to {self.runs.last}")
         return step
 
     def state(self, text: str) -> saves.Saved:

@@ -32,7 +32,7 @@ def opened(path: str, mode: int | None = None) -> Iterator[BinaryIO]:
 
 
 def is_replaced(target: str) -> bool:
-    """Whether there is no file, or a regular one that may be written."""
+    """Whether the file is missing, or is a regular one that may be written."""
     try:
         kept = os.stat(target).st_mode
     except FileNotFoundError:

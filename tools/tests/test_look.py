@@ -426,7 +426,7 @@ class FakeTest(LookTest):
         self.check_said(ran, "the guest is stopped at step 5: this is shown")
         ran = self.look(path, "at", "11")
         self.check_plain(ran, 2)
-        self.check_said(ran, "there is no step 11: the guest goes from 0 to 10")
+        self.check_said(ran, "step 11 is not in the run, which goes from 0 to 10")
 
     def test_resumed(self):
         path = self.configure(front="format = 2\nturns = [[0, 2]]\n")
@@ -435,7 +435,7 @@ class FakeTest(LookTest):
         keys = {"image": None, "blocks": None, "spaces": None, "entries": None, "console": None}
         path = self.configure(front="format = 2\nturns = [[0, 9]]\n", resume='"s"', **keys)
         self.assertEqual(self.lines(path, "first", "console", "1")[0], "step 3")
-        self.check_said(self.look(path, "at", "1"), "there is no step 1: the guest goes from 2 to 11")
+        self.check_said(self.look(path, "at", "1"), "step 1 is not in the run, which goes from 2 to 11")
 
     def test_first(self):
         path = self.trapping()

@@ -16,7 +16,7 @@ from helper import LIMIT, ToolTest, take_signals
 from nesthv_tools import children, endings, parallel, start
 
 TRIES = 8  # of each kind of work and each signal
-LONGEST = 0.06  # seconds from the begin of the work to the signal
+LONGEST = 0.06  # seconds from the start of the work to the signal
 SLEEP = ["sleep", "100"]
 
 
