@@ -1,17 +1,31 @@
 -- What the index of a word tells of its opcode, and funct3 of its bits.
-use Rattle.std.proofs.Common.{cond, ◌≡◌, ℕ, ◌+◌, ◌*◌, ◌/◌, ◌%◌, Bool, true, false, None, nat_eq, refl, arith}
+use Rattle.std.proofs.Common.{cond, ◌≡◌, ℕ, ◌+◌, ◌*◌, ◌/◌, ◌%◌, ◌^◌, ◌<◌, Bool, true, false, None, nat_eq, refl, arith}
 use Rattle.std.specs.Prelude.{◌||◌, not}
 use Rattle.std.proofs.lemmas.Bool.{eqb-false, ne_eqb}
 use Rattle.arch_defs.specs.Bits.{field}
 use Rattle.op_defs.specs.Fields.{funct3, opcode}
 use Rattle.op_defs.specs.Table.{atomic_of, fence_of, op_of, system_of}
-use Rattle.rv64_decode.specs.Common.{common_op_of}
+use Rattle.rv64_decode.specs.Common.{IsIndex, common_op_of, spread_of}
 
-pub opcode_at : (index word : ℕ) → word % 4 ≡ 3 → index ≡ field 2 5 word + 32 * funct3 word → opcode word ≡ 4 * (index % 32) + 3
-opcode_at index word low is = omega (arith, low, is)
+-- the product of the fields
+pub product : (next result : ℕ) → result ≡ (next / 4096 % 8 * 4096 + next % 128) * 0x40108000 % 2 ^ 32 / 2 ^ 22 → result ≡ spread_of next
+unfolding spread_of
+product next result is = omega (arith, is)
 
-pub funct3_at : (index word : ℕ) → index ≡ field 2 5 word + 32 * funct3 word → funct3 word ≡ index / 32
-funct3_at index word is = omega (arith, is)
+-- by the fields of the word after it
+pub is_index : (index word next : ℕ) → next ≡ (word + 1) % 2 ^ 32 → index ≡ spread_of next → IsIndex index word
+unfolding spread_of
+is_index index word next follows is = record {
+  common = λ low small. omega (arith, follows, is, low, small);
+  low = λ most least. omega (arith, follows, is, most, least);
+  upper = λ most least. omega (arith, follows, is, most, least);
+}
+
+pub opcode_at : (index word : ℕ) → IsIndex index word → index < 256 → 0 < index % 32 → opcode word ≡ 4 * ((index + 31) % 32) + 3
+opcode_at index word is most least = let low = is.low most least in let upper = is.upper most least in omega (arith, is.common low upper, low, upper)
+
+pub funct3_at : (index word : ℕ) → IsIndex index word → index < 256 → 0 < index % 32 → funct3 word ≡ index / 32
+funct3_at index word is most least = let low = is.low most least in let upper = is.upper most least in omega (arith, is.common low upper, low, upper)
 
 pub low_bits : (f word : ℕ) → f ≡ funct3 word → field 12 2 word ≡ f % 4
 low_bits f word is = omega (arith, is)
@@ -23,42 +37,23 @@ high_bit f word is = omega (arith, is)
 pub other_opcode : (word opcode_of : ℕ) → nat_eq (word % 4) 3 ≡ false → opcode_of % 4 ≡ 3 → nat_eq (opcode word) opcode_of ≡ false
 other_opcode word opcode_of other low = ne_eqb (opcode word) opcode_of (λ same. eqb-false (word % 4) 3 other (omega (arith, same, low)))
 
-pub outside : (word : ℕ) → nat_eq (word % 4) 3 ≡ false → None ≡ common_op_of word
-unfolding common_op_of op_of
-outside word other = rw (
-  other_opcode word 0b0110111 other refl,
-  other_opcode word 0b0010111 other refl,
-  other_opcode word 0b1101111 other refl,
-  other_opcode word 0b1100111 other refl,
-  other_opcode word 0b1100011 other refl,
-  other_opcode word 0b0000011 other refl,
-  other_opcode word 0b0100011 other refl,
-  other_opcode word 0b0010011 other refl,
-  other_opcode word 0b0110011 other refl,
-  other_opcode word 0b0011011 other refl,
-  other_opcode word 0b0111011 other refl,
-  other_opcode word 0b0001111 other refl,
-  other_opcode word 0b0101111 other refl,
-  other_opcode word 0b1110011 other refl,
-) refl
-
 -- a word whose index is none of an opcode's eight is of another opcode
-pub apart : (index word : ℕ) (upper : ℕ) → word % 4 ≡ 3 → index ≡ field 2 5 word + 32 * funct3 word → nat_eq index upper ≡ false → nat_eq index (upper + 32) ≡ false
-    → nat_eq index (upper + 64) ≡ false → nat_eq index (upper + 96) ≡ false → nat_eq index (upper + 128) ≡ false → nat_eq index (upper + 160) ≡ false → nat_eq index (upper + 192) ≡ false
-    → nat_eq index (upper + 224) ≡ false → nat_eq (opcode word) (4 * upper + 3) ≡ false
-apart index word upper low is n0 n1 n2 n3 n4 n5 n6 n7 = ne_eqb (opcode word) (4 * upper + 3) (λ same. omega (
+pub apart : (index word : ℕ) (upper : ℕ) → upper < 31 → IsIndex index word → nat_eq index (upper + 1) ≡ false → nat_eq index (upper + 33) ≡ false
+    → nat_eq index (upper + 65) ≡ false → nat_eq index (upper + 97) ≡ false → nat_eq index (upper + 129) ≡ false → nat_eq index (upper + 161) ≡ false → nat_eq index (upper + 193) ≡ false
+    → nat_eq index (upper + 225) ≡ false → nat_eq (opcode word) (4 * upper + 3) ≡ false
+apart index word upper small is n0 n1 n2 n3 n4 n5 n6 n7 = ne_eqb (opcode word) (4 * upper + 3) (λ same. let by = is.common (omega (arith, same)) (omega (arith, same, small)) in omega (
   arith,
-  low,
-  is,
+  by,
   same,
-  eqb-false index upper n0,
-  eqb-false index (upper + 32) n1,
-  eqb-false index (upper + 64) n2,
-  eqb-false index (upper + 96) n3,
-  eqb-false index (upper + 128) n4,
-  eqb-false index (upper + 160) n5,
-  eqb-false index (upper + 192) n6,
-  eqb-false index (upper + 224) n7,
+  small,
+  eqb-false index (upper + 1) n0,
+  eqb-false index (upper + 33) n1,
+  eqb-false index (upper + 65) n2,
+  eqb-false index (upper + 97) n3,
+  eqb-false index (upper + 129) n4,
+  eqb-false index (upper + 161) n5,
+  eqb-false index (upper + 193) n6,
+  eqb-false index (upper + 225) n7,
 ))
 
 -- and a word of none of the common opcodes is not a common word

@@ -1,11 +1,10 @@
 // The table of words, by opcode.
 
-ghost use Rattle.std.specs.Prelude.{◌≡◌, ◌+◌, ◌*◌, ◌%◌, ◌==◌, Some, None, IfSome, if◌then◌else◌, true};
-ghost use Rattle.arch_defs.specs.Bits.{field};
+ghost use Rattle.std.specs.Prelude.{◌≡◌, ◌==◌, Some, None, IfSome, if◌then◌else◌, true};
 ghost use Rattle.op_defs.specs.declared.ops.Op.TheVariants.{Auipc, Jal, Jalr, Lui};
 ghost use Rattle.op_defs.specs.Fields.{funct3, rd, rs1, i_immediate, j_immediate, u_immediate};
 ghost use Rattle.op_defs.specs.Table.{op_of, test_of, branch_of, load_of, store_of, fence_of, is_system};
-ghost use Rattle.rv64_decode.specs.Common.{common_op_of};
+ghost use Rattle.rv64_decode.specs.Common.{IsIndex, common_op_of};
 
 use crate::atomics::atomic;
 use crate::fields::{
@@ -41,97 +40,91 @@ pub fn decode_system(bits: u32) -> Option<Op>
 }
 
 /// The same, but none for a word of MISC-MEM, AMO or SYSTEM.
-#[tactic(auto, using(crate::proofs::Indices::outside))]
 #[inline(always)]
 pub fn decode_common(bits: u32) -> Option<Op>
     ensures value { result ≡ common_op_of bits }
     ensures known { IfSome result (λ op. op_of bits ≡ Some op) }
 {
-    if bits % 4 == 3 {
-        indexed(index(bits), bits)
-    } else {
-        None
-    }
+    indexed(index(bits), bits)
 }
 
-// The same of a word with the low bits 11 by its index, so that one dispatch tells opcode and funct3. What it
-// calls is only `inline`: with `inline(always)` it would grow so large that its own is dropped.
+// The same of a word by its index, so that one dispatch tells opcode and funct3. What it calls is only
+// `inline`: with `inline(always)` it would grow so large that its own is dropped.
 #[tactic(auto, using(crate::proofs::Indices::opcode_at, crate::proofs::Indices::funct3_at), unfolding(op_defs::specs::Table::op_of, crate::specs::Common::common_op_of))]
 #[inline(always)]
 fn indexed(index: u32, bits: u32) -> Option<Op>
-    requires low { bits % 4 ≡ 3 }
-    requires index { index ≡ field 2 5 bits + 32 * funct3 bits }
+    requires index { IsIndex index bits }
     ensures value { result ≡ common_op_of bits }
     ensures known { IfSome result (λ op. op_of bits ≡ Some op) }
 {
     match index {
-        0x00 => load(0, bits),
-        0x20 => load(1, bits),
-        0x40 => load(2, bits),
-        0x60 => load(3, bits),
-        0x80 => load(4, bits),
-        0xA0 => load(5, bits),
-        0xC0 => load(6, bits),
-        0xE0 => load(7, bits),
-        0x08 => store(0, bits),
-        0x28 => store(1, bits),
-        0x48 => store(2, bits),
-        0x68 => store(3, bits),
-        0x88 => store(4, bits),
-        0xA8 => store(5, bits),
-        0xC8 => store(6, bits),
-        0xE8 => store(7, bits),
-        0x04 => immediate(0, bits),
-        0x24 => immediate(1, bits),
-        0x44 => immediate(2, bits),
-        0x64 => immediate(3, bits),
-        0x84 => immediate(4, bits),
-        0xA4 => immediate(5, bits),
-        0xC4 => immediate(6, bits),
-        0xE4 => immediate(7, bits),
-        0x0C => register(0, bits),
-        0x2C => register(1, bits),
-        0x4C => register(2, bits),
-        0x6C => register(3, bits),
-        0x8C => register(4, bits),
-        0xAC => register(5, bits),
-        0xCC => register(6, bits),
-        0xEC => register(7, bits),
-        0x06 => word_immediate(0, bits),
-        0x26 => word_immediate(1, bits),
-        0x46 => word_immediate(2, bits),
-        0x66 => word_immediate(3, bits),
-        0x86 => word_immediate(4, bits),
-        0xA6 => word_immediate(5, bits),
-        0xC6 => word_immediate(6, bits),
-        0xE6 => word_immediate(7, bits),
-        0x0E => word(0, bits),
-        0x2E => word(1, bits),
-        0x4E => word(2, bits),
-        0x6E => word(3, bits),
-        0x8E => word(4, bits),
-        0xAE => word(5, bits),
-        0xCE => word(6, bits),
-        0xEE => word(7, bits),
-        0x18 => branch(0, bits),
-        0x38 => branch(1, bits),
-        0x58 => branch(2, bits),
-        0x78 => branch(3, bits),
-        0x98 => branch(4, bits),
-        0xB8 => branch(5, bits),
-        0xD8 => branch(6, bits),
-        0xF8 => branch(7, bits),
-        0x19 => jump_by_register(0, bits),
-        0x39 => jump_by_register(1, bits),
-        0x59 => jump_by_register(2, bits),
-        0x79 => jump_by_register(3, bits),
-        0x99 => jump_by_register(4, bits),
-        0xB9 => jump_by_register(5, bits),
-        0xD9 => jump_by_register(6, bits),
-        0xF9 => jump_by_register(7, bits),
-        0x0D | 0x2D | 0x4D | 0x6D | 0x8D | 0xAD | 0xCD | 0xED => load_upper(bits),
-        0x05 | 0x25 | 0x45 | 0x65 | 0x85 | 0xA5 | 0xC5 | 0xE5 => add_upper(bits),
-        0x1B | 0x3B | 0x5B | 0x7B | 0x9B | 0xBB | 0xDB | 0xFB => jump(bits),
+        0x01 => load(0, bits),
+        0x21 => load(1, bits),
+        0x41 => load(2, bits),
+        0x61 => load(3, bits),
+        0x81 => load(4, bits),
+        0xA1 => load(5, bits),
+        0xC1 => load(6, bits),
+        0xE1 => load(7, bits),
+        0x09 => store(0, bits),
+        0x29 => store(1, bits),
+        0x49 => store(2, bits),
+        0x69 => store(3, bits),
+        0x89 => store(4, bits),
+        0xA9 => store(5, bits),
+        0xC9 => store(6, bits),
+        0xE9 => store(7, bits),
+        0x05 => immediate(0, bits),
+        0x25 => immediate(1, bits),
+        0x45 => immediate(2, bits),
+        0x65 => immediate(3, bits),
+        0x85 => immediate(4, bits),
+        0xA5 => immediate(5, bits),
+        0xC5 => immediate(6, bits),
+        0xE5 => immediate(7, bits),
+        0x0D => register(0, bits),
+        0x2D => register(1, bits),
+        0x4D => register(2, bits),
+        0x6D => register(3, bits),
+        0x8D => register(4, bits),
+        0xAD => register(5, bits),
+        0xCD => register(6, bits),
+        0xED => register(7, bits),
+        0x07 => word_immediate(0, bits),
+        0x27 => word_immediate(1, bits),
+        0x47 => word_immediate(2, bits),
+        0x67 => word_immediate(3, bits),
+        0x87 => word_immediate(4, bits),
+        0xA7 => word_immediate(5, bits),
+        0xC7 => word_immediate(6, bits),
+        0xE7 => word_immediate(7, bits),
+        0x0F => word(0, bits),
+        0x2F => word(1, bits),
+        0x4F => word(2, bits),
+        0x6F => word(3, bits),
+        0x8F => word(4, bits),
+        0xAF => word(5, bits),
+        0xCF => word(6, bits),
+        0xEF => word(7, bits),
+        0x19 => branch(0, bits),
+        0x39 => branch(1, bits),
+        0x59 => branch(2, bits),
+        0x79 => branch(3, bits),
+        0x99 => branch(4, bits),
+        0xB9 => branch(5, bits),
+        0xD9 => branch(6, bits),
+        0xF9 => branch(7, bits),
+        0x1A => jump_by_register(0, bits),
+        0x3A => jump_by_register(1, bits),
+        0x5A => jump_by_register(2, bits),
+        0x7A => jump_by_register(3, bits),
+        0x9A => jump_by_register(4, bits),
+        0xBA => jump_by_register(5, bits),
+        0xDA => jump_by_register(6, bits),
+        0xFA => jump_by_register(7, bits),
+        0x0E | 0x2E | 0x4E | 0x6E | 0x8E | 0xAE | 0xCE | 0xEE => load_upper(bits),
+        0x06 | 0x26 | 0x46 | 0x66 | 0x86 | 0xA6 | 0xC6 | 0xE6 => add_upper(bits),
+        0x1C | 0x3C | 0x5C | 0x7C | 0x9C | 0xBC | 0xDC | 0xFC => jump(bits),
         _ => None,
     }
 }

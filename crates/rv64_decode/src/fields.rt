@@ -1,9 +1,9 @@
 // The fields of a word, and the immediates of the formats.
 
-ghost use Rattle.std.specs.Prelude.{◌≡◌, ◌+◌, ◌*◌, ◌%◌, ◌<◌};
-ghost use Rattle.arch_defs.specs.Bits.{field, sign_extend};
+ghost use Rattle.std.specs.Prelude.{◌≡◌, ◌%◌, ◌<◌};
 ghost use Rattle.op_defs.specs.Fields.{i_immediate, s_immediate, b_immediate, u_immediate, j_immediate, funct3, funct7, rd, rs1, rs2};
 ghost use Rattle.op_defs.specs.Table.{width_of};
+ghost use Rattle.rv64_decode.specs.Common.{IsIndex, spread_of};
 
 use arch_defs::{Reg, Width};
 
@@ -96,16 +96,26 @@ pub fn u_immediate(word: u32) -> u64
 pub fn j_immediate(word: u32) -> u64
     ensures { result ≡ j_immediate word }
 {
-    let sign = (word.cast_signed() as i64 >> 31).cast_unsigned();
-    let low = word / 4096 % 256 * 4096 + word / 0x10_0000 % 2 * 2048 + word / 0x20_0000 % 1024 * 2;
-    sign.wrapping_mul(0x10_0000).wrapping_add(low as u64)
+    let upper = (word.cast_signed() >> 20).cast_unsigned();
+    let low = word / 4096 % 256 * 4096 + word / 0x10_0000 % 2 * 2048 + upper / 2 % 1024 * 2;
+    let offset = upper / 0x10_0000 * 0x10_0000 + low;
+    (offset.cast_signed() as i64).cast_unsigned()
 }
 
-/// Opcode and funct3 in one number below 256: the upper five bits of the opcode, and above them funct3.
+/// Opcode and funct3 in one number, which tells too whether the word ends in 11, so that one range test does.
+#[tactic(auto, using(crate::proofs::Indices::is_index))]
 #[inline(always)]
 pub fn index(word: u32) -> u32
-    ensures value { result ≡ field 2 5 word + 32 * funct3 word }
-    ensures small { result < 256 }
+    ensures { IsIndex result word }
 {
-    (word / 4096 % 8 * 4096 + word / 4 % 32 * 4).wrapping_mul(0x42_0000) >> 24
+    spread(word.wrapping_add(1))
+}
+
+// Opcode, funct3 and the low two bits in one number.
+#[tactic(auto, using(crate::proofs::Indices::product), unfolding(crate::specs::Common::spread_of))]
+#[inline(always)]
+fn spread(next: u32) -> u32
+    ensures { result ≡ spread_of next }
+{
+    (next / 4096 % 8 * 4096 + next % 128).wrapping_mul(0x4010_8000) >> 22
 }
