@@ -1,5 +1,5 @@
 -- A run is held at its start, at its next positions, and where it is brought back to.
-use Rattle.std.proofs.Common.{arith, ◌≡◌, ◌∙◌, ℕ, ◌+◌, ◌^◌, ◌<◌, ◌≤◌, List, [], ◌∷◌, ◌++◌, length, ap, sym, refl, subst}
+use Rattle.std.proofs.Common.{arith, ◌≡◌, ◌∙◌, ◌⊎◌, inl, inr, ℕ, ◌+◌, ◌^◌, ◌<◌, ◌≤◌, List, [], ◌∷◌, ◌++◌, length, ap, sym, refl, subst}
 use Rattle.std.specs.Global.{Vec}
 use Rattle.std.specs.List.{All, slice_index_or}
 use Rattle.std.proofs.Math.Seq.{get_or-append_seam}
@@ -27,6 +27,10 @@ form_still kept form n inside = get_or_append_left kept (form ∷ []) [] n insid
 
 one_more : (kept : List (List ℕ)) (form : List ℕ) (n : ℕ) → n < length kept → n < length (kept ++ form ∷ [])
 one_more kept form n inside = rw (length-append kept (form ∷ [])) (omega (arith, inside))
+
+same_state : (states : List Kept) (state : Kept) (place form : ℕ) → state.place ≡ place → state.form ≡ form
+    → states ++ state ∷ [] ≡ states ++ record { place = place; form = form } ∷ []
+same_state states state place form is_place is_form = rw (sym is_place, sym is_form) refl
 
 module _ {Y : Type 0} (R : runners.Ghosts Y) where
   pub kept_form : (m : Machine) (old mid new : Forms) → R.is_form mid.partial → R.machine_in mid.partial ≡ m → mid.kept ≡ old.kept
@@ -116,7 +120,7 @@ module _ {Y : Type 0} (R : runners.Ghosts Y) where
         };
       }
 
-  pub form_kept : (p : Positions Y) (forms : Forms) (kept : Vec Kept) (next gap : ℕ) → IsShown R p
+  form_kept : (p : Positions Y) (forms : Forms) (kept : Vec Kept) (next gap : ℕ) → IsShown R p
       → HasKept R (R.machine p.runner) p.forms forms → kept.items ≡ p.kept.items
       → KeepsRun R p (record p { forms = forms; kept = kept; next = next; gap = gap })
   form_kept p forms kept next gap held has same =
@@ -135,7 +139,7 @@ module _ {Y : Type 0} (R : runners.Ghosts Y) where
       }
 
   -- one more state is kept, and whenever the next is to be
-  pub kept_more : (p : Positions Y) (forms : Forms) (kept : Vec Kept) (next gap : ℕ) → IsShown R p
+  kept_more : (p : Positions Y) (forms : Forms) (kept : Vec Kept) (next gap : ℕ) → IsShown R p
       → HasKept R (R.machine p.runner) p.forms forms → (R.machine p.runner).platform.steps ≤ 2 ^ 60
       → kept.items ≡ p.kept.items ++ record { place = p.place; form = length p.forms.kept } ∷ []
       → KeepsRun R p (record p { forms = forms; kept = kept; next = next; gap = gap })
@@ -168,6 +172,16 @@ module _ {Y : Type 0} (R : runners.Ghosts Y) where
               (none_kept R origin forms.kept)));
         };
       }
+
+  -- one more form is kept, and its state where there was memory for it
+  pub state_kept : (p : Positions Y) (forms : Forms) (kept : Vec Kept) (state : Kept) (next gap : ℕ) → IsShown R p
+      → HasKept R (R.machine p.runner) p.forms forms → (R.machine p.runner).platform.steps ≤ 2 ^ 60
+      → state.place ≡ p.place → state.form ≡ length p.forms.kept
+      → (kept.items ≡ p.kept.items) ⊎ (kept.items ≡ p.kept.items ++ state ∷ [])
+      → KeepsRun R p (record p { forms = forms; kept = kept; next = next; gap = gap })
+  state_kept p forms kept state next gap held has early place form (inl same) = form_kept p forms kept next gap held has same
+  state_kept p forms kept state next gap held has early place form (inr more) =
+      kept_more p forms kept next gap held has early (more ∙ same_state p.kept.items state p.place (length p.forms.kept) place form)
 
   -- no form is kept, whatever was written
   pub none_added : (p : Positions Y) (forms : Forms) (next gap : ℕ) → IsShown R p → forms.kept ≡ p.forms.kept
@@ -240,4 +254,6 @@ pub ruleset keepings = (keeps_none, keeps_then)
 
 pub ruleset forms_kept = (kept_form)
 
-pub ruleset movings = (moved, kept_more, form_kept, none_added, none_kept_yet, brought, left, left_unread, left_alone)
+pub ruleset no_state_kept = (none_added, none_kept_yet)
+
+pub ruleset bringings = (brought, left, left_unread)

@@ -1,6 +1,6 @@
 // A run, at one of its positions.
 
-ghost use Rattle.std.specs.Prelude.{◌≡◌, ◌+◌, ◌-◌, ◌^◌, ◌<◌, ◌≤◌, length, ℕ, IfOk, IfSome, OnErr, OnOk};
+ghost use Rattle.std.specs.Prelude.{◌≡◌, ◌⊎◌, ◌+◌, ◌-◌, ◌^◌, ◌<◌, ◌≤◌, ◌++◌, ◌∷◌, [], length, ℕ, IfOk, IfSome, OnErr, OnOk};
 ghost use Rattle.run_positions.specs.Looks.{offset_of};
 ghost use Rattle.run_positions.specs.Positions.{begin_of, shown_of, HasKept, IsKeptState, IsShown, KeepsRun};
 ghost use Rattle.run_positions.specs.Stops.{last_stop, next_stop, IsFoundFrom};
@@ -48,6 +48,13 @@ fn keep_state<R: Runner>(runner: &R, forms: &mut FormPool) -> Result<(), NoMemor
     forms.restart();
     runner.keep(forms)?;
     forms.keep()
+}
+
+// Adds a state to those that are kept, where there is memory for it.
+fn add_state(kept: &mut Vec<Kept>, state: Kept)
+    ensures { (kept.new.items ≡ kept.old.items) ⊎ (kept.new.items ≡ kept.old.items ++ state ∷ []) }
+{
+    let _ = kept.push(state);
 }
 
 impl<R: Runner + Drop> Positions<R> {
@@ -111,7 +118,7 @@ impl<R: Runner + Drop> Positions<R> {
     }
 
     // Keeps the state of this position, where there is memory for it, and says when the next is to be kept.
-    #[tactic(auto, using(crate::proofs::Moving::movings))]
+    #[tactic(auto, using(crate::proofs::Moving::no_state_kept))]
     fn keep(&mut self)
         requires held { IsShown R.Runner self.old }
         ensures keeps { KeepsRun R.Runner self.old self.new }
@@ -123,7 +130,7 @@ impl<R: Runner + Drop> Positions<R> {
             let form = self.forms.count();
             if let Ok(()) = keep_state(&self.runner, &mut self.forms) {
                 let place = self.place;
-                let _ = self.kept.push(Kept { place, form });
+                add_state(&mut self.kept, Kept { place, form });
             }
         }
     }
@@ -180,7 +187,7 @@ impl<R: Runner + Drop> Positions<R> {
     }
 
     // Brings back a state that is kept.
-    #[tactic(auto, using(crate::proofs::Moving::movings))]
+    #[tactic(auto, using(crate::proofs::Moving::bringings))]
     fn bring(&mut self, alloc: Global, state: Kept) -> Result<(), NoMemory>
         requires held { IsShown R.Runner self.old }
         requires kept { IsKeptState R.Runner (begin_of R.Runner self.old) self.old.forms.kept state }
@@ -196,7 +203,6 @@ impl<R: Runner + Drop> Positions<R> {
 
     // Brings back the latest state that is kept and not behind a position, or that of the start. Where there
     // is no memory for it, the position stays.
-    #[tactic(auto, using(crate::proofs::Moving::movings))]
     fn bring_back(&mut self, alloc: Global, n: u64) -> Result<(), NoMemory>
         requires held { IsShown R.Runner self.old }
         ensures keeps { KeepsRun R.Runner self.old self.new }

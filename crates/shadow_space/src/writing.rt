@@ -1,16 +1,18 @@
 // Entries of the tables of a space, in memory.
 
-ghost use Rattle.std.specs.Prelude.{◌≡◌, ◌≢◌, ◌+◌, ◌-◌, ◌*◌, ◌/◌, ◌<◌, ◌≤◌, ◌^◌, length, slice_index};
-ghost use Rattle.arch_defs.specs.CachedEntries.{CanFill};
+ghost use Rattle.std.specs.Prelude.{◌≡◌, ◌≢◌, ◌+◌, ◌-◌, ◌*◌, ◌/◌, ◌<◌, ◌≤◌, ◌^◌, false, length, slice_index};
+ghost use Rattle.arch_defs.specs.CachedEntries.{CanFill, is_device};
+ghost use Rattle.arch_defs.specs.Memory.{block_size, ram_base};
 ghost use Rattle.shadow_space.specs.Held.{HasFree, IsCounting, departed, table_entered, entered_frame, held_in};
-ghost use Rattle.shadow_space.specs.Leaves.{leaf_word};
+ghost use Rattle.shadow_space.specs.Leaves.{frame_of_ram, leaf_parts, leaf_word};
 ghost use Rattle.shadow_space.specs.Trees.{most_tables};
+ghost use Rattle.stage_walk.specs.Ends.{PteFits};
 ghost use Rattle.table_words.specs.Entries.{named_frame};
 ghost use Rattle.table_words.specs.Words.{changed, doubleword_at};
 
 use crate::devices::is_device;
 use crate::frames::TableFrames;
-use arch_defs::{Entry, FRAME_SIZE, Part};
+use arch_defs::{Entry, FRAME_SIZE, Part, Pte};
 use phys_mem::{PhysMem, RAM_BASE};
 use stage_walk::{leaf_to, pointer_to, pte_of, pte_word};
 use table_words::{doubleword_at, set_word};
@@ -24,17 +26,37 @@ pub struct Tables {
 }
 
 /// The leaf that an entry is folded into. One of the device page has none.
-#[tactic(auto, using(crate::proofs::Reachable::is_of_ram))]
 pub fn leaf_word(part: &Part, entry: &Entry) -> u64
     requires { CanFill part.now.blocks entry.now }
     ensures { result ≡ leaf_word part.now.blocks entry.now }
 {
     if is_device(entry) {
-        return 0;
+        0
+    } else {
+        pte_word(&leaf_parts(part, entry))
     }
+}
+
+// The parts of the leaf of an entry of RAM.
+#[tactic(auto, using(crate::proofs::Reachable::is_of_ram))]
+fn leaf_parts(part: &Part, entry: &Entry) -> Pte
+    requires fills { CanFill part.now.blocks entry.now }
+    requires ram { is_device entry.now ≡ false }
+    ensures parts { result ≡ leaf_parts part.now.blocks entry.now }
+    ensures fits { PteFits result }
+{
+    leaf_to(host_frame(part, entry.frame), entry.r, entry.w, entry.x)
+}
+
+// The frame of machine memory that a frame of RAM is.
+fn host_frame(part: &Part, frame: u64) -> u64
+    requires from { ram_base ≤ frame * 4096 }
+    requires to { frame * 4096 < ram_base + length part.now.blocks * block_size }
+    ensures frame { result ≡ frame_of_ram part.now.blocks frame }
+    ensures small { result < 2 ^ 44 }
+{
     part.names_each_once();
-    let place = part.host_place(entry.frame * FRAME_SIZE - RAM_BASE);
-    pte_word(&leaf_to(place / FRAME_SIZE, entry.r, entry.w, entry.x))
+    part.host_place(frame * FRAME_SIZE - RAM_BASE) / FRAME_SIZE
 }
 
 /// One more entry in the table that doubleword i points to. Where it points to none, a free frame becomes it.

@@ -55,7 +55,27 @@ above_small : (low frame reserved : ℕ) → low < 1024 → frame < 2 ^ 44 → r
     → low + (frame + reserved * 2 ^ 44) * 1024 < 2 ^ 64
 above_small low frame reserved l f r = omega arith
 
--- an entry's word is such a number
+-- an entry's word is the sum of its flags, each in its place, and of the two numbers above them
+flag_number : (i : ℕ) (b : Bool) → (if b then 2 ^ i else 0) ≡ bit_number i b
+flag_number i true = refl
+flag_number i false = refl
+
+pub word_of_flags : (e : Pte)
+    → (if e.v then 1 else 0) + (if e.r then 2 else 0) + (if e.w then 4 else 0) + (if e.x then 8 else 0)
+    + (if e.u then 16 else 0) + (if e.a then 64 else 0) + (if e.d then 128 else 0)
+    + e.frame * 2 ^ 10 + e.reserved * 2 ^ 54 ≡ pte_word e
+unfolding pte_word
+word_of_flags e = rw (
+  flag_number 0 e.v,
+  flag_number 1 e.r,
+  flag_number 2 e.w,
+  flag_number 3 e.x,
+  flag_number 4 e.u,
+  flag_number 6 e.a,
+  flag_number 7 e.d,
+) refl
+
+-- and it is digits with two numbers above them
 abbrev low : Pte → ℕ
 low e = flags (digit e.v) (digit e.r) (digit e.w) (digit e.x) (digit e.u) (digit e.a) (digit e.d)
 
