@@ -1,6 +1,6 @@
 -- What accesses find in the first stage.
 use Rattle.std.specs.Prelude.{◌||◌, not}
-use Rattle.std.proofs.Common.{cond, nat_eq, ◌≡◌, ℕ, ◌%◌, ◌^◌, Bool, true, false, List, [], ◌∷◌, ◌++◌, Option, Some, None, Err, refl, ap, sym, subst, ◌∙◌}
+use Rattle.std.proofs.Common.{cond, nat_eq, ◌≡◌, ◌⊎◌, inl, inr, ℕ, ◌%◌, ◌^◌, Bool, true, false, List, [], ◌∷◌, ◌++◌, Option, Some, None, Err, refl, ap, sym, subst, ◌∙◌}
 use Rattle.arch_defs.specs.declared.first.FirstEntry.{FirstEntry}
 use Rattle.arch_defs.specs.declared.first.Tag.{Tag}
 use Rattle.arch_defs.specs.declared.hart_states.HartState.{HartState}
@@ -34,12 +34,15 @@ use Rattle.op_defs.specs.Fields.{opcode}
 use Rattle.op_defs.specs.Table.{is_system, op_of, system_of, system_op_of}
 use Rattle.rv64_decode.specs.Common.{common_op_of}
 use Rattle.machine_defs.specs.Answers.{answer_of}
-use Rattle.machine_defs.specs.Core.{At, Fails, Located, accessed_data, called_from, core, decoded, event_of, fetch_place, found_with, instruction, kind_of, word_at}
+use Rattle.machine_defs.specs.Core.{At, Completion, Fails, Faults, Located, Misses, accessed_data, at_place, called_from, completed, core, data_place, decoded, done, event_of, fetch_place, found_with, instruction, kind_of, word_at}
 use Rattle.machine_defs.specs.FirstLeaves.{entries_of, found_at, found_by_effect, found_by_op, found_for, leaf_if, leaf_under, leaves_found, unless_known}
 use Rattle.instruction_laws.specs.MissedPlaces.{wanted_by, wanted_of}
 use Rattle.translation_buffer.specs.Places.{passed_by}
-use Rattle.rv64_hart.specs.Endings.{IfMade, attempt_at, attempt_of_effect, attempt_of_word, attempt_with}
+use Rattle.rv64_hart.specs.declared.endings.Ended.{Ended}
+use Rattle.rv64_hart.specs.declared.endings.Ended.TheVariants as ended
+use Rattle.rv64_hart.specs.Endings.{IfMade, attempt_at, attempt_by, attempt_of_effect, attempt_of_word, attempt_with}
 use Rattle.rv64_hart.specs.MachineMemory.{found_by_wanted, found_on, found_over, mmu_on, reading_of_memory}
+use Rattle.machine_defs.specs.declared.events.Event.{Event}
 use Rattle.machine_defs.specs.declared.events.Event.TheVariants.{Plain, System}
 use Rattle.rv64_hart.specs.Steps.{Attempt, Makes, attempt_of, caching, caching_found, with_found_on}
 
@@ -191,3 +194,25 @@ word_made true s memory word op after changed common is ends =
     subst (λ o. attempt_of (caching_found s (found_by_op s.tag (mmu_on s memory) s.virt o)) memory (decoded (mmu_on s memory) s.virt word o) ≡ Makes after changed (event_of s.virt.regs.pc word)) (sym is) ends
     ∙ ap (λ b. Makes after changed (cond b System (Plain s.virt.regs.pc word))) (common_plain word op common)
 word_made false s memory word op after changed common is ends = tt
+
+-- an access to data is not of opcode SYSTEM: where it is not made, it has raised a trap
+ends_plain : (s : HartState) (memory : List ℕ) (wanted : DataAccess) (located : Located) (made : ℕ → Completion) (after : HartState) (changed : List ℕ)
+    → attempt_of s memory (at_place (Some wanted) located (λ place. done (Plain 0 0) (made place))) ≡ Makes after changed System → ⊥
+ends_plain s memory wanted (At place) made after changed e = absurd cc
+ends_plain s memory wanted (Fails (Faults trap)) made after changed e = absurd cc
+ends_plain s memory wanted (Fails (Misses missing)) made after changed e = absurd cc
+
+pub data_raised : (how : Ended) (trap : Trap) (s : HartState) (memory : List ℕ) (through : Mmu) (state : Virtual) (wanted : DataAccess) (after : HartState) (changed : List ℕ)
+    → ((event : Event) → attempt_of s memory (accessed_data through state event wanted) ≡ attempt_by how trap event after changed)
+    → (how ≡ ended.System) ⊎ (how ≡ ended.Raised) → how ≡ ended.Raised
+data_raised how trap s memory through state wanted after changed ends (inl system) =
+    absurd (ends_plain s memory wanted (data_place through state.csrs state.mode wanted) (completed through.reading state wanted.width wanted.purpose) after changed
+    (ends (Plain 0 0) ∙ ap (λ end. attempt_by end trap (Plain 0 0) after changed) system))
+data_raised how trap s memory through state wanted after changed ends (inr raised) = raised
+
+-- the instruction of a word by what it asks for, where it is made
+pub word_plain : (made : Bool) (s : HartState) (memory : List ℕ) (word : ℕ) (op : Op) (effect : Effect) (r : Attempt) → op_of word ≡ Some op → effect ≡ meaning op s.virt.regs
+    → IfMade made (attempt_of_effect s memory word effect ≡ r) → IfMade made (attempt_of_word s memory word ≡ r)
+unfolding all_filled
+word_plain true s memory word op effect r is e ends = op_ends [] s memory word op effect r is e ends
+word_plain false s memory word op effect r is e ends = tt

@@ -9,9 +9,10 @@ use Rattle.machine_defs.specs.declared.events.Event.TheVariants as event
 use Rattle.rv64_hart.specs.declared.endings.Ended.{Ended}
 use Rattle.rv64_hart.specs.declared.endings.Ended.TheVariants.{Plain, System, Raised}
 use Rattle.rv64_hart.specs.Counts.{Counts}
-use Rattle.rv64_hart.specs.Endings.{IfRaised, IsNext, KeepsContext, RunsOn, Tells, attempt_of_word, one_of, told_by, told_of}
+use Rattle.rv64_hart.specs.Endings.{IfRaised, IsNext, KeepsContext, RunsOn, RunsPlain, Tells, attempt_of_word, one_of, told_by, told_of}
 use Rattle.rv64_hart.specs.MachineMemory.{mmu_on}
-use Rattle.rv64_hart.specs.Steps.{Makes, Progress, attempt_of, found_at_exit, hart_step, hart_steps, next_attempt, one_more_step, progress, caching_found, with_found_on}
+use Rattle.rv64_hart.specs.PlainSteps.{one_plain_step, plain_steps, went_plain}
+use Rattle.rv64_hart.specs.Steps.{Makes, Progress, attempt_of, end_by, found_at_exit, hart_step, hart_steps, next_attempt, one_more_step, progress, caching_found, with_found_on}
 use Rattle.rv64_hart.proofs.Told.{goes_on}
 
 -- no steps
@@ -51,14 +52,6 @@ runs_one n s memory trace after changed raised is none told watch =
     steps_more watch 0 n (progress s memory trace false) (progress s memory trace false) (Some (progress after changed raised false)) is
     (steps_none watch 0 (progress s memory trace false) (omega arith)) (makes_step watch s memory trace after changed raised none told)
 
-pub runs_more : (n m : ℕ) (s : HartState) (memory : List ℕ) (trace : ℕ) (between : HartState) (held : List ℕ) (sum : ℕ) (after : HartState) (changed : List ℕ) (raised : ℕ)
-    → m ≡ n + 1 → RunsOn n s memory trace between held sum → due between.virt.csrs between.virt.mode ≡ None
-    → told_of sum (attempt_of (with_found_on between held) held (core (mmu_on between held) between.virt)) ≡ Tells after changed raised false
-    → RunsOn m s memory trace after changed raised
-runs_more n m s memory trace between held sum after changed raised is before none told watch =
-    steps_more watch n m (progress s memory trace false) (progress between held sum false) (Some (progress after changed raised false)) is
-    (before watch) (makes_step watch between held sum after changed raised none told)
-
 pub runs_both : (m n k : ℕ) (s : HartState) (memory : List ℕ) (trace : ℕ) (between : HartState) (held : List ℕ) (sum : ℕ) (after : HartState) (changed : List ℕ) (raised : ℕ)
     → k ≡ m + n → RunsOn m s memory trace between held sum → RunsOn n between held sum after changed raised
     → RunsOn k s memory trace after changed raised
@@ -76,14 +69,47 @@ runs_by System n s memory counts trap after changed raised is none told stays sa
 runs_by Raised n s memory counts trap after changed raised is none told (a, b) e = λ watch.
     rw (a, b, e) (steps_none watch n (progress s memory counts.trace false) (omega (arith, is)))
 
+-- no plain steps, and more of them
+pub plain_none : (n : ℕ) (p : Progress) → n ≤ 0 → plain_steps n p ≡ Some p
+unfolding plain_steps
+plain_none zero p h = refl
+plain_none (suc n) p h = absurd (omega arith)
+
+plain_more : (n m : ℕ) (p q : Progress) (r : Option Progress) → m ≡ n + 1 → plain_steps n p ≡ Some q → one_plain_step q ≡ r → plain_steps m p ≡ r
+unfolding plain_steps
+plain_more n m p q r e h one = let s : n + 1 ≡ suc n = omega arith in rw (e, s, h) one
+
+plain_on : (m n k : ℕ) (p q : Progress) (r : Option Progress) → k ≡ m + n → plain_steps m p ≡ Some q → plain_steps n q ≡ r → plain_steps k p ≡ r
+unfolding plain_steps
+plain_on m zero k p q r e h t = let s : k ≡ m = omega arith in rw s (h ∙ t)
+plain_on m (suc n) k p q r e h t = let s : k ≡ suc (m + n) = omega arith in
+    rw s (ap (option_and_then one_plain_step) (plain_on m n (m + n) p q (plain_steps n q) refl h refl) ∙ t)
+
+pub plain_both : (m n k : ℕ) (s : HartState) (memory : List ℕ) (trace : ℕ) (between : HartState) (held : List ℕ) (sum : ℕ) (after : HartState) (changed : List ℕ) (raised : ℕ)
+    → k ≡ m + n → RunsPlain m s memory trace between held sum → RunsPlain n between held sum after changed raised
+    → RunsPlain k s memory trace after changed raised
+plain_both m n k s memory trace between held sum after changed raised is first second =
+    plain_on m n k (progress s memory trace false) (progress between held sum false) (Some (progress after changed raised false)) is first second
+
+makes_plain : (s : HartState) (memory : List ℕ) (trace : ℕ) (after : HartState) (changed : List ℕ) (raised pc word : ℕ)
+    → due s.virt.csrs s.virt.mode ≡ None
+    → attempt_of (with_found_on s memory) memory (core (mmu_on s memory) s.virt) ≡ Makes after changed (event.Plain pc word)
+    → (trace + (pc + word)) % 2 ^ 64 ≡ raised
+    → one_plain_step (progress s memory trace false) ≡ Some (progress after changed raised false)
+unfolding hart_step one_plain_step
+makes_plain s memory trace after changed raised pc word none made adds =
+    let is : next_attempt s memory (due s.virt.csrs s.virt.mode) ≡ Makes after changed (event.Plain pc word) = rw none made in
+    ap (λ attempt. went_plain trace (end_by (caching_found s (found_at_exit s memory)) memory attempt)) is
+    ∙ ap (λ t. Some (progress after changed t false)) adds
+
 -- a common one
 pub runs_common : (n m : ℕ) (s : HartState) (memory : List ℕ) (trace : ℕ) (between : HartState) (held : List ℕ) (sum : ℕ) (after : HartState) (changed : List ℕ) (raised word : ℕ)
-    → m ≡ n + 1 → RunsOn n s memory trace between held sum → KeepsContext s.virt between.virt → due s.virt.csrs s.virt.mode ≡ None → IsNext word between held
+    → m ≡ n + 1 → RunsPlain n s memory trace between held sum → KeepsContext s.virt between.virt → due s.virt.csrs s.virt.mode ≡ None → IsNext word between held
     → attempt_of_word between held word ≡ Makes after changed (event.Plain between.virt.regs.pc word)
     → raised ≡ (sum + (between.virt.regs.pc + word) % 2 ^ 64) % 2 ^ 64
-    → RunsOn m s memory trace after changed raised
+    → RunsPlain m s memory trace after changed raised
 runs_common n m s memory trace between held sum after changed raised word is before (csrs, mode) none next made adds =
     let due_between : due between.virt.csrs between.virt.mode ≡ None = rw (csrs, mode) none in
     let same : (sum + (between.virt.regs.pc + word)) % 2 ^ 64 ≡ raised = omega (arith, adds) in
-    runs_more n m s memory trace between held sum after changed raised is before due_between
-    (ap (told_of sum) (next ∙ made) ∙ ap (λ t. Tells after changed t false) same)
+    plain_more n m (progress s memory trace false) (progress between held sum false) (Some (progress after changed raised false)) is
+    before (makes_plain between held sum after changed raised between.virt.regs.pc word due_between (next ∙ made) same)

@@ -29,6 +29,7 @@ use Rattle.rv64_hart.specs.declared.endings.StepEnd.TheVariants.{Continues, Ends
 use Rattle.rv64_hart.specs.declared.endings.Stretch.{Stretch}
 use Rattle.rv64_hart.specs.Counts.{Counts, OnlyTrace}
 use Rattle.rv64_hart.specs.MachineMemory.{mmu_on}
+use Rattle.rv64_hart.specs.PlainSteps.{plain_steps}
 use Rattle.rv64_hart.specs.Steps.{Attempt, Exits, Makes, Raises, attempt_of, caching, Progress, enters_vs, hart_step, hart_steps, next_attempt, progress, caching_found, with_found_on}
 
 -- where an access is made, by the answer; where it is not, the trap that it is to the hart, whatever has been
@@ -73,6 +74,11 @@ IsNext word s memory = attempt_of (with_found_on s memory) memory (core (mmu_on 
 abbrev pub RunsOn : ℕ → HartState → List ℕ → ℕ → HartState → List ℕ → ℕ → Type 0
 RunsOn n s memory trace after changed raised = (watch : Bool)
     → hart_steps watch n (progress s memory trace false) ≡ Some (progress after changed raised false)
+
+-- and each of them is plain
+abbrev pub RunsPlain : ℕ → HartState → List ℕ → ℕ → HartState → List ℕ → ℕ → Type 0
+RunsPlain n s memory trace after changed raised =
+    plain_steps n (progress s memory trace false) ≡ Some (progress after changed raised false)
 
 -- what a step asks for, by how its instruction ended, the trap that is told apart, the event that the step is
 -- where the instruction is a plain one, and the state and memory after it
@@ -208,7 +214,7 @@ pub record LeftByStretch (stretch : Stretch) (trap : Trap) (buffer : Buffer) (ta
 -- one of common instructions, and where it ended before a word
 pub record LeftByCommon (stretch : CommonStretch) (buffer : Buffer) (tally counted : Counts)
     (old : HartState) (memory : List ℕ) (new : HartState) (changed : List ℕ) : Type 0 where
-  pub steps : RunsOn stretch.made old memory tally.trace new changed counted.trace
+  pub steps : RunsPlain stretch.made old memory tally.trace new changed counted.trace
   pub next : IfSome stretch.word (λ word. IsNext word new changed)
   pub only : OnlyTrace tally counted
   pub serves : ServesHart buffer new changed

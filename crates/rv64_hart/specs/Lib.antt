@@ -4,6 +4,8 @@ pub mod Endings
 pub mod Laws
 pub mod Leaves
 pub mod Loans
+pub mod Lookups
 pub mod MachineMemory
 pub mod NextAccesses
+pub mod PlainSteps
 pub mod Steps

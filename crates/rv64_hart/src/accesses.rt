@@ -11,16 +11,17 @@ ghost use Rattle.machine_defs.specs.FirstLeaves.{entries_of};
 ghost use Rattle.data_access.specs.Places.{IsPlaceFor};
 ghost use Rattle.translation_buffer.specs.Serving.{ServesHart};
 ghost use Rattle.rv64_hart.specs.Endings.{IfMade, IsAnswered, KeepsContext, LeftBy, Unless, attempt_by};
+ghost use Rattle.rv64_hart.specs.Lookups.{LookupTells};
 ghost use Rattle.rv64_hart.specs.MachineMemory.{access_over, found_over, mmu_on, reading_of_memory};
 ghost use Rattle.rv64_hart.specs.Steps.{Makes, attempt_of, caching_found};
 
 use crate::endings::Ended;
 use crate::leaves::cache;
-use crate::walked_accesses::reach;
+use crate::walked_accesses::{reach, reach_by};
 use arch_defs::{Access, FirstEntry, HartState, Reg, Trap, Virtual, Width};
 use data_access::{DataAccess, complete, is_aligned, kind_of, load, store};
 use phys_mem::{Mem, PhysMem};
-use translation_buffer::Buffer;
+use translation_buffer::{Buffer, Lookup};
 
 /// The instruction word at a place.
 pub fn word_at(memory: &PhysMem, place: u64) -> u32
@@ -30,36 +31,28 @@ pub fn word_at(memory: &PhysMem, place: u64) -> u32
     memory.load_word(place)
 }
 
-/// Where an access is made that finds nothing, by the buffer.
+// What is looked up in the buffer for an access: nothing, where its address is not a multiple of its width.
 #[inline(always)]
-#[tactic(auto, using(crate::proofs::Places::at_place_found, crate::proofs::Places::nothing_found, data_access::proofs::Fitting::fits_at))]
-pub fn kept_place(
+fn looked_up(
     state: &HartState,
     memory: &PhysMem,
     buffer: &mut Buffer,
     va: u64,
     width: Width,
     access: Access,
-) -> Option<u64>
+) -> Lookup
     requires serves { ServesHart buffer.old state.now memory.now }
-    ensures located { IfSome result
-        (λ place. access_over memory.now state.now va width access ≡ At place) }
-    ensures none { IfSome result
-        (λ place. found_over memory.now state.now va width access ≡ []) }
-    ensures place { IfSome result (λ place. IsPlaceFor (machine_memory memory.now) width place) }
+    ensures told { LookupTells state.now memory.now va width access result }
     ensures serves { ServesHart buffer.new state.now memory.now }
 {
     memory.is_whole();
     if !is_aligned(va, width) {
-        return None;
+        return Lookup::NotPassed;
     }
-    match buffer.place(memory, state, va, access) {
-        Some(place) => Some(place),
-        None => None,
-    }
+    buffer.look_up(memory, state, va, access)
 }
 
-/// The same by what is kept alone.
+// Where an access is made that finds nothing, by what is kept alone.
 #[inline(always)]
 #[tactic(auto, using(crate::proofs::Places::at_place_found, crate::proofs::Places::nothing_found, data_access::proofs::Fitting::fits_at))]
 fn found_place(
@@ -106,21 +99,16 @@ pub fn last_place(state: &HartState, memory: &PhysMem, buffer: &Buffer, pc: u64)
     }
 }
 
-/// Where the instruction at pc is whose access finds nothing, by the page of the last fetch, and else by the
+/// What is looked up for the access at pc of an instruction: by the page of the last fetch, and else by the
 /// buffer.
 #[inline(always)]
-pub fn fetch_place(state: &HartState, memory: &PhysMem, buffer: &mut Buffer, pc: u64) -> Option<u64>
+pub fn fetch_lookup(state: &HartState, memory: &PhysMem, buffer: &mut Buffer, pc: u64) -> Lookup
     requires serves { ServesHart buffer.old state.now memory.now }
-    ensures located { IfSome result
-        (λ place. access_over memory.now state.now pc Width.Word Access.Fetch ≡ At place) }
-    ensures none { IfSome result
-        (λ place. found_over memory.now state.now pc Width.Word Access.Fetch ≡ []) }
-    ensures place { IfSome result
-        (λ place. IsPlaceFor (machine_memory memory.now) Width.Word place) }
+    ensures told { LookupTells state.now memory.now pc Width.Word Access.Fetch result }
     ensures serves { ServesHart buffer.new state.now memory.now }
 {
     match last_place(state, memory, buffer, pc) {
-        Some(place) => Some(place),
+        Some(place) => Lookup::InMemory(place),
         None => turned(state, memory, buffer, pc),
     }
 }
@@ -128,25 +116,20 @@ pub fn fetch_place(state: &HartState, memory: &PhysMem, buffer: &mut Buffer, pc:
 // The same by the buffer. Where it has a place, the page of pc becomes that of the last fetch.
 #[cold]
 #[inline(never)]
-fn turned(state: &HartState, memory: &PhysMem, buffer: &mut Buffer, pc: u64) -> Option<u64>
+fn turned(state: &HartState, memory: &PhysMem, buffer: &mut Buffer, pc: u64) -> Lookup
     requires serves { ServesHart buffer.old state.now memory.now }
-    ensures located { IfSome result
-        (λ place. access_over memory.now state.now pc Width.Word Access.Fetch ≡ At place) }
-    ensures none { IfSome result
-        (λ place. found_over memory.now state.now pc Width.Word Access.Fetch ≡ []) }
-    ensures place { IfSome result
-        (λ place. IsPlaceFor (machine_memory memory.now) Width.Word place) }
+    ensures told { LookupTells state.now memory.now pc Width.Word Access.Fetch result }
     ensures serves { ServesHart buffer.new state.now memory.now }
 {
-    let place = kept_place(state, memory, buffer, pc, Width::Word, Access::Fetch);
+    let lookup = looked_up(state, memory, buffer, pc, Width::Word, Access::Fetch);
     buffer.turn(pc);
-    place
+    lookup
 }
 
 /// Where in memory an instruction makes an access to data, as memory is, and what that finds is cached; where
 /// it makes none, `trap` becomes the trap of the access, and nothing is cached.
 #[inline(always)]
-#[tactic(auto, using(crate::proofs::FirstFound::nothing_filled))]
+#[tactic(auto, using(crate::proofs::FirstFound::nothing_filled, crate::proofs::Lookups::located_there, crate::proofs::Lookups::nothing_there, crate::proofs::Lookups::fits_there))]
 fn access_place(
     state: &mut HartState,
     memory: &PhysMem,
@@ -165,13 +148,14 @@ fn access_place(
     ensures place { IfSome result (λ place. IsPlaceFor (machine_memory memory.now) width place) }
     ensures serves { ServesHart buffer.new state.new memory.now }
 {
-    match kept_place(state, memory, buffer, va, width, access) {
+    let lookup = looked_up(state, memory, buffer, va, width, access);
+    match lookup.place() {
         Some(place) => Some(place),
-        None => place_anew(state, memory, buffer, va, width, access, trap),
+        None => place_anew(state, memory, buffer, va, width, access, lookup, trap),
     }
 }
 
-// The same with no kept translation.
+// The same where what was looked up is not a place.
 #[cold]
 #[inline(never)]
 #[tactic(auto, using(crate::proofs::Places::found, crate::proofs::Places::failed))]
@@ -182,9 +166,11 @@ fn place_anew(
     va: u64,
     width: Width,
     access: Access,
+    lookup: Lookup,
     trap: &mut Trap,
 ) -> Option<u64>
     requires serves { ServesHart buffer.old state.old memory.now }
+    requires told { LookupTells state.old memory.now va width access lookup }
     ensures located { IsAnswered state.old memory.now
         (access_over memory.now state.old va width access) trap.new result }
     ensures found { IfSome result (λ place. state.new
@@ -194,7 +180,7 @@ fn place_anew(
     ensures serves { ServesHart buffer.new state.new memory.now }
 {
     let mut entry = None;
-    match reach(state, memory, va, width, access, trap, &mut entry) {
+    match reach_by(state, memory, va, width, access, lookup, trap, &mut entry) {
         Some(place) => {
             cache(&mut state.virt.first, buffer, entry.as_ref());
             Some(place)

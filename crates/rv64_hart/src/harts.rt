@@ -6,9 +6,11 @@ ghost use Rattle.arch_defs.specs.Registers.{virtual_at};
 ghost use Rattle.translation_buffer.specs.Serving.{ServesHart};
 ghost use Rattle.rv64_hart.specs.Counts.{CountsSteps};
 ghost use Rattle.rv64_hart.specs.Loans.{LendsState};
+ghost use Rattle.rv64_hart.specs.PlainSteps.{plain_steps};
 ghost use Rattle.rv64_hart.specs.Steps.{hart_steps, progress, is_vs_trap, IsWhy};
 
 use crate::endings::StepEnd;
+use crate::plain_steps::plain_steps;
 use crate::steps::round;
 use crate::tallies::Tally;
 use arch_defs::{HartState, Mode, Tag, Trap, Virtual};
@@ -104,6 +106,26 @@ impl Hart {
             watch,
             tally,
         )
+    }
+
+    /// Makes plain instructions alone over machine memory, at most `limit`, and answers how many. It may stop
+    /// early: before a trap, before an instruction of opcode SYSTEM, or before one whose fetch finds a
+    /// first-stage translation, which it would cache. Raises the tally by one entry and by the steps made.
+    pub fn run_plain(&mut self, memory: &mut PhysMem, limit: u64, tally: &mut Tally) -> u64
+        requires entries { tally.old.entries < 2 ^ 62 }
+        requires taken { tally.old.taken + limit ≤ 2 ^ 62 }
+        ensures steps { plain_steps result (progress self.old.state memory.old tally.old.trace false)
+            ≡ Some (progress self.new.state memory.new tally.new.trace false) }
+        ensures within { result ≤ limit }
+        ensures entries { tally.new.entries ≡ tally.old.entries + 1 }
+        ensures taken { tally.new.taken ≡ tally.old.taken + result }
+    {
+        tally.enter();
+        self.buffer
+            .restart(&self.state.virt.csrs, self.state.virt.mode);
+        let taken = plain_steps(&mut self.state, memory, &mut self.buffer, limit, tally);
+        tally.take(taken);
+        taken
     }
 }
 

@@ -9,6 +9,7 @@ mod harts;
 mod laws;
 mod leaves;
 mod next_accesses;
+mod plain_steps;
 mod rare_instructions;
 mod steps;
 mod tallies;

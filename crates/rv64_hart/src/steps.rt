@@ -1,6 +1,6 @@
 // One step of the hart.
 
-ghost use Rattle.std.specs.Prelude.{◌≡◌, ◌^◌, ◌<◌, ℕ, Some, None, IfSome, IsTrue, false, option_map};
+ghost use Rattle.std.specs.Prelude.{◌≡◌, ◌^◌, ◌<◌, ℕ, Some, None, IfErr, IfOk, IfSome, IsTrue, false, option_map};
 ghost use Rattle.arch_defs.specs.FirstEntries.{HasGuestFrame};
 ghost use Rattle.arch_defs.specs.Interrupts.{due};
 ghost use Rattle.arch_defs.specs.Traps.{entered_at, is_virtual, target};
@@ -10,22 +10,23 @@ ghost use Rattle.machine_defs.specs.Core.{core, event_of};
 ghost use Rattle.machine_defs.specs.FirstLeaves.{entries_of};
 ghost use Rattle.translation_buffer.specs.Serving.{ServesHart};
 ghost use Rattle.rv64_hart.specs.Endings.{HasMade, IfLeft, IfPlain, IsCommonStretch, IsNext, IsStretch, IsTallied, KeepsContext, LeftBy, LeftByCommon, LeftByRound, LeftByStretch, NoneDueIfQuiet, attempt_at, attempt_by, attempt_of_effect, attempt_of_word, counted_of, is_plain_end, one_of, told_by, told_of};
+ghost use Rattle.rv64_hart.specs.Lookups.{LookupTells};
 ghost use Rattle.rv64_hart.specs.MachineMemory.{mmu_on};
 ghost use Rattle.rv64_hart.specs.Steps.{Exits, Raises, attempt_of, found_at_exit, hart_step, next_attempt, one_more_step, progress, progressed, trapped_to, caching_found, with_found_on};
 
-use crate::accesses::{fetch_place, last_place, load_anew, store_anew, word_at};
+use crate::accesses::{fetch_lookup, last_place, load_anew, store_anew, word_at};
 use crate::common_instructions::common;
 use crate::endings::{CommonStretch, Ended, Round, StepEnd, Stretch, raise_interrupt};
 use crate::leaves::{cache, found_at_exit};
 use crate::rare_instructions::{follow, is_system, rare};
 use crate::tallies::Tally;
-use crate::walked_accesses::reach;
+use crate::walked_accesses::reach_by;
 use arch_defs::{Access, FirstEntry, HartState, Level, Trap, Virtual, Width};
 use op_defs::Op;
 use op_effects::address_at;
 use phys_mem::PhysMem;
 use rv64_decode::decode_common;
-use translation_buffer::Buffer;
+use translation_buffer::{Buffer, Lookup};
 use trap_delegation::{enter_vs, pending, target};
 
 /// Makes steps up to a number: a stretch of common instructions and what ends it, or a trap.
@@ -123,7 +124,7 @@ fn is_plain(end: Ended) -> bool
 
 // The same where no interrupt is due.
 #[inline(always)]
-#[tactic(auto, using(crate::proofs::Runs::runs_both))]
+#[tactic(auto, using(crate::proofs::Runs::runs_both, crate::proofs::PlainSteps::plain_runs))]
 fn instructions(
     state: &mut HartState,
     memory: &mut PhysMem,
@@ -141,7 +142,7 @@ fn instructions(
     ensures plain { IfPlain result.end (KeepsContext state.old.virt state.new.virt) }
 {
     match fetched(state, memory, buffer) {
-        Some(word) => {
+        Ok(word) => {
             let common = common_instructions(state, memory, buffer, word, most, tally);
             match common.word {
                 Some(word) => {
@@ -157,20 +158,28 @@ fn instructions(
                 },
             }
         }
-        None => first_anew(state, memory, buffer, tally, trap),
+        Err(lookup) => first_anew(state, memory, buffer, lookup, tally, trap),
     }
 }
 
-// The word of the next instruction, where its access at pc finds nothing.
+// The word of the next instruction, where its access at pc finds nothing, and else what is looked up for that
+// access.
 #[inline(always)]
-fn fetched(state: &HartState, memory: &PhysMem, buffer: &mut Buffer) -> Option<u32>
+pub(crate) fn fetched(
+    state: &HartState,
+    memory: &PhysMem,
+    buffer: &mut Buffer,
+) -> Result<u32, Lookup>
     requires serves { ServesHart buffer.old state.now memory.now }
-    ensures next { IfSome result (λ word. IsNext word state.now memory.now) }
+    ensures next { IfOk result (λ word. IsNext word state.now memory.now) }
+    ensures told { IfErr result
+        (LookupTells state.now memory.now state.now.virt.regs.pc Width.Word Access.Fetch) }
     ensures serves { ServesHart buffer.new state.now memory.now }
 {
-    match fetch_place(state, memory, buffer, state.virt.regs.pc) {
-        Some(place) => Some(word_at(memory, place)),
-        None => None,
+    let lookup = fetch_lookup(state, memory, buffer, state.virt.regs.pc);
+    match lookup.place() {
+        Some(place) => Ok(word_at(memory, place)),
+        None => Err(lookup),
     }
 }
 
@@ -198,24 +207,26 @@ fn one(end: Ended) -> Stretch
     }
 }
 
-// An instruction with no kept translation of pc, as a stretch.
+// An instruction for whose access at pc this is looked up, as a stretch.
 #[inline(always)]
 #[tactic(auto, using(crate::proofs::Runs::runs_one))]
 fn first_anew(
     state: &mut HartState,
     memory: &mut PhysMem,
     buffer: &mut Buffer,
+    lookup: Lookup,
     tally: &mut Tally,
     trap: &mut Trap,
 ) -> Stretch
     requires serves { ServesHart buffer.old state.old memory.old }
+    requires told { LookupTells state.old memory.old state.old.virt.regs.pc Width.Word Access.Fetch lookup }
     requires none { due state.old.virt.csrs state.old.virt.mode ≡ None }
     ensures run { LeftByStretch result trap.new buffer.new tally.old tally.new
         state.old memory.old state.new memory.new }
     ensures made { result.made ≡ one_of result.end }
     ensures plain { IfPlain result.end (KeepsContext state.old.virt state.new.virt) }
 {
-    one(instruction_anew(state, memory, buffer, tally, trap))
+    one(instruction_anew(state, memory, buffer, lookup, tally, trap))
 }
 
 // The instruction of the next word, as a stretch.
@@ -369,8 +380,8 @@ fn missed_data(
 // and its data are kept. pc goes into memory last in each step, and the trace after them all, so that the
 // compiler has both in registers.
 #[inline(always)]
-#[tactic(auto, using(crate::proofs::Runs::steps_none, crate::proofs::Runs::runs_common))]
-fn common_instructions(
+#[tactic(auto, using(crate::proofs::Runs::plain_none, crate::proofs::Runs::runs_common))]
+pub(crate) fn common_instructions(
     state: &mut HartState,
     memory: &mut PhysMem,
     buffer: &Buffer,
@@ -521,17 +532,19 @@ fn looked(state: &Virtual) -> Option<u64>
     pending(&state.csrs, state.mode)
 }
 
-// One instruction with no kept translation of pc.
+// One instruction for whose access at pc this is looked up.
 #[cold]
 #[inline(never)]
 fn instruction_anew(
     state: &mut HartState,
     memory: &mut PhysMem,
     buffer: &mut Buffer,
+    lookup: Lookup,
     tally: &mut Tally,
     trap: &mut Trap,
 ) -> Ended
     requires serves { ServesHart buffer.old state.old memory.old }
+    requires told { LookupTells state.old memory.old state.old.virt.regs.pc Width.Word Access.Fetch lookup }
     ensures told { told_of tally.old.trace (attempt_of (with_found_on state.old memory.old) memory.old
         (core (mmu_on state.old memory.old) state.old.virt))
         ≡ told_by result trap.new state.new memory.new tally.new.trace }
@@ -541,7 +554,7 @@ fn instruction_anew(
     let pc = state.virt.regs.pc;
     let (width, access) = (Width::Word, Access::Fetch);
     let mut entry = None;
-    match reach(state, memory, pc, width, access, trap, &mut entry) {
+    match reach_by(state, memory, pc, width, access, lookup, trap, &mut entry) {
         Some(place) => {
             let found = entry.as_ref();
             counted(

@@ -5,19 +5,25 @@ ghost use Rattle.arch_defs.specs.FirstEntries.{HasGuestFrame, first_entry};
 ghost use Rattle.arch_defs.specs.Memory.{Known, machine_memory, mmu};
 ghost use Rattle.arch_defs.specs.Translation.{first_stage};
 ghost use Rattle.arch_defs.specs.Walk.{most_levels};
+ghost use Rattle.arch_defs.specs.Widths.{bytes_in};
 ghost use Rattle.machine_defs.specs.Answers.{answer_of};
-ghost use Rattle.machine_defs.specs.Core.{found_with};
+ghost use Rattle.machine_defs.specs.Core.{found_with, located_by};
 ghost use Rattle.machine_defs.specs.FirstLeaves.{entries_of, entry_walked, unless_known};
 ghost use Rattle.data_access.specs.Places.{IsPlaceFor};
 ghost use Rattle.stage_walk.specs.Ends.{LeafFits};
 ghost use Rattle.two_stage_walk.specs.Places.{KeepsOffset};
+ghost use Rattle.rv64_hart.specs.Lookups.{LookupTells, missing_at};
 ghost use Rattle.rv64_hart.specs.MachineMemory.{access_over, found_over, known_on, mmu_on, reading_of_memory, second_of_memory};
 
-use arch_defs::{Access, FirstEntry, Found, HartState, LeafPte, SupervisorRoot, Tag, Trap, Width};
+use arch_defs::{
+    Access, FirstEntry, Found, HartState, LeafPte, MissingPlace, SupervisorRoot, Tag, Trap, Width,
+};
 use data_access::is_aligned;
 use phys_mem::{Mem, PhysMem};
-use translation_buffer::passed_by;
-use two_stage_walk::{first_leaf, first_stage, leaf_address, supervisor_of, translate_found};
+use translation_buffer::{Lookup, passed_by};
+use two_stage_walk::{
+    first_leaf, first_stage, guest_page_trap, leaf_address, supervisor_of, translate_found,
+};
 
 // The translation of an address's one page under a leaf.
 fn first_entry(tag: &Tag, atp: SupervisorRoot, va: u64, leaf: &LeafPte) -> FirstEntry
@@ -94,10 +100,62 @@ fn first_stage_of(
     }
 }
 
+// The same by a walk, where no cached translation passes the access on.
+#[inline(always)]
+fn first_stage_anew(
+    state: &HartState,
+    memory: &PhysMem,
+    va: u64,
+    access: Access,
+    entry: &mut Option<FirstEntry>,
+) -> Found
+    requires none { entry.old ≡ None }
+    requires unknown { known_on state.now va access ≡ None }
+    ensures found { result ≡ found_with (known_on state.now va access)
+        (first_stage (second_of_memory state.now.virt memory.now) (reading_of_memory memory.now)
+        state.now.virt.csrs state.now.virt.mode va access) }
+    ensures entry { entries_of entry.new ≡ unless_known (known_on state.now va access)
+        (entry_walked state.now.tag (mmu_on state.now memory.now) state.now.virt va access) }
+    ensures offset { KeepsOffset va result }
+    ensures fits { IfSome entry.new HasGuestFrame }
+{
+    walked(state, memory, va, access, entry)
+}
+
+// Where an aligned access is made, by what the first stage made of its address. Where it is made nowhere,
+// `trap` becomes its trap to the hart.
+#[inline(always)]
+#[tactic(auto, using(data_access::proofs::Fitting::fits_at))]
+fn reached(
+    state: &HartState,
+    memory: &PhysMem,
+    va: u64,
+    width: Width,
+    access: Access,
+    found: Found,
+    trap: &mut Trap,
+) -> Option<u64>
+    requires aligned { va % bytes_in width ≡ 0 }
+    requires offset { KeepsOffset va found }
+    ensures place { ok_or result trap.new ≡ answer_of false state.now.virt.csrs
+        (machine_memory memory.now) (located_by (second_of_memory state.now.virt memory.now)
+        state.now.virt.mode va access found) }
+    ensures inside { IfSome result (λ place. IsPlaceFor (machine_memory memory.now) width place) }
+{
+    let virt = &state.virt;
+    memory.is_whole();
+    match translate_found(memory, &virt.csrs, virt.mode, va, access, false, found) {
+        Ok(place) => Some(place),
+        Err(raised) => {
+            *trap = raised;
+            None
+        }
+    }
+}
+
 /// Where an access is made, by the first-stage translations that are cached, and else by walks. Where it is
 /// made nowhere, `trap` becomes its trap to the hart. The first-stage translation that it finds is put into
 /// `entry`.
-#[tactic(auto, using(data_access::proofs::Fitting::fits_at))]
 pub fn reach(
     state: &HartState,
     memory: &PhysMem,
@@ -114,18 +172,84 @@ pub fn reach(
     ensures inside { IfSome result (λ place. IsPlaceFor (machine_memory memory.now) width place) }
     ensures fits { IfSome entry.new HasGuestFrame }
 {
-    let virt = &state.virt;
-    memory.is_whole();
     if !is_aligned(va, width) {
-        *trap = Trap::of_exception(virt.mode, access.faults().misaligned, va);
+        *trap = Trap::of_exception(state.virt.mode, access.faults().misaligned, va);
         return None;
     }
     let found = first_stage_of(state, memory, va, access, entry);
-    match translate_found(memory, &virt.csrs, virt.mode, va, access, false, found) {
-        Ok(place) => Some(place),
-        Err(raised) => {
-            *trap = raised;
+    reached(state, memory, va, width, access, found, trap)
+}
+
+// The same where no cached translation passes the access on.
+fn reach_anew(
+    state: &HartState,
+    memory: &PhysMem,
+    va: u64,
+    width: Width,
+    access: Access,
+    trap: &mut Trap,
+    entry: &mut Option<FirstEntry>,
+) -> Option<u64>
+    requires none { entry.old ≡ None }
+    requires unknown { va % bytes_in width ≡ 0 → known_on state.now va access ≡ None }
+    ensures place { ok_or result trap.new ≡ answer_of false state.now.virt.csrs
+        (machine_memory memory.now) (access_over memory.now state.now va width access) }
+    ensures entry { entries_of entry.new ≡ found_over memory.now state.now va width access }
+    ensures inside { IfSome result (λ place. IsPlaceFor (machine_memory memory.now) width place) }
+    ensures fits { IfSome entry.new HasGuestFrame }
+{
+    if !is_aligned(va, width) {
+        *trap = Trap::of_exception(state.virt.mode, access.faults().misaligned, va);
+        return None;
+    }
+    let found = first_stage_anew(state, memory, va, access, entry);
+    reached(state, memory, va, width, access, found, trap)
+}
+
+/// The same by what is looked up for the access.
+#[inline(always)]
+pub fn reach_by(
+    state: &HartState,
+    memory: &PhysMem,
+    va: u64,
+    width: Width,
+    access: Access,
+    lookup: Lookup,
+    trap: &mut Trap,
+    entry: &mut Option<FirstEntry>,
+) -> Option<u64>
+    requires told { LookupTells state.now memory.now va width access lookup }
+    requires none { entry.old ≡ None }
+    ensures place { ok_or result trap.new ≡ answer_of false state.now.virt.csrs
+        (machine_memory memory.now) (access_over memory.now state.now va width access) }
+    ensures entry { entries_of entry.new ≡ found_over memory.now state.now va width access }
+    ensures inside { IfSome result (λ place. IsPlaceFor (machine_memory memory.now) width place) }
+    ensures fits { IfSome entry.new HasGuestFrame }
+{
+    match lookup {
+        Lookup::InMemory(place) => Some(place),
+        Lookup::GuestPageFault(address) => {
+            *trap = guest_page_trap(&missing_at(state, va, access, address));
             None
         }
+        Lookup::AccessFault => {
+            *trap = missing_at(state, va, access, va).access_fault();
+            None
+        }
+        Lookup::NotPassed => reach_anew(state, memory, va, width, access, trap, entry),
+    }
+}
+
+// An access for which the second stage has no place at a guest physical address.
+#[inline(always)]
+fn missing_at(state: &HartState, va: u64, access: Access, address: u64) -> MissingPlace
+    ensures { result ≡ missing_at state.now va access address }
+{
+    MissingPlace {
+        address,
+        kind: access,
+        access,
+        va,
+        mode: state.virt.mode,
     }
 }

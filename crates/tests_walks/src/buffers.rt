@@ -451,7 +451,7 @@ fn access(t: &mut Trial, va: u64, access: Access) -> Option<u64>
     requires { ServesHart t.old.buffer t.old.state t.old.memory }
     ensures { ServesHart t.new.buffer t.new.state t.new.memory }
 {
-    t.buffer.place(&t.memory, &t.state, va, access)
+    t.buffer.look_up(&t.memory, &t.state, va, access).place()
 }
 
 fn enter(t: &mut Trial, setting: &Setting)

@@ -7,6 +7,7 @@ pub mod Homes
 pub mod KeptPages
 pub mod KeptPlaces
 pub mod KeptSlots
+pub mod LookedUp
 pub mod OnePage
 pub mod PageTags
 pub mod PlacesInside

@@ -14,12 +14,14 @@ ghost use Rattle.arch_defs.specs.Translation.{privilege_of};
 ghost use Rattle.translation_buffer.specs.declared.frame_sets.FrameSet.{FrameSet};
 ghost use Rattle.translation_buffer.specs.Holding.{has_frame, has_recent};
 ghost use Rattle.two_stage_walk.specs.Places.{IsPlaceOf};
+ghost use Rattle.translation_buffer.specs.Lookups.{LookupIn, lookup_on_hart, lookup_under};
 ghost use Rattle.translation_buffer.specs.Places.{Reads, Translator, context_of, passed_by, place_on_hart, spares, translated_place, translator};
 ghost use Rattle.translation_buffer.specs.Tags.{AllAtHome, AllUpTo, bit_of, run_bits, who_bits};
 ghost use Rattle.translation_buffer.specs.WalkCounts.{one_more_walk};
 
 use crate::contexts::Context;
 use crate::frame_sets::FrameSet;
+use crate::lookups::Lookup;
 use crate::pages::{Page, delta};
 use crate::slots::{Slot, Slots};
 use arch_defs::{
@@ -131,21 +133,21 @@ pub fn passed_by(state: &HartState, root: &SupervisorRoot, va: u64, access: Acce
     }
 }
 
-// The place of an access for which no table of the first stage is walked, where the second stage gives one.
-// The frames of all that is read are added to a set.
+// What is made of an access for which no table of the first stage is walked. The frames of all that is read
+// are added to a set.
 #[inline(always)]
-fn place_noted(
+fn lookup_noted(
     memory: &PhysMem,
     context: &Context,
     state: &HartState,
     va: u64,
     access: Access,
     read: &mut FrameSet,
-) -> Option<u64>
-    ensures place { result
-        ≡ translated_place (translator state.now.virt.first state.now.tag context.now)
+) -> Lookup
+    ensures lookup { result
+        ≡ lookup_under (translator state.now.virt.first state.now.tag context.now)
         (privilege_of state.now.virt.csrs state.now.virt.mode) memory.now va access }
-    ensures inside { IfSome result (λ place. IsPlaceOf (machine_memory memory.now) va place) }
+    ensures inside { LookupIn memory.now va result }
     ensures more { Within (has_frame read.old) (has_frame read.new) }
     ensures noted { (frames : Frames) → Within (has_recent read.new) frames
         → Reads frames (translator state.now.virt.first state.now.tag context.now)
@@ -154,9 +156,10 @@ fn place_noted(
     memory.is_whole();
     match passed_by(state, &context.first, va, access) {
         Some(address) => {
-            second_noted(memory, context.mxr, context.second, address, access, read)
+            let answer = second_noted(memory, context.mxr, context.second, address, access, read);
+            Lookup::of(address, answer)
         }
-        None => None,
+        None => Lookup::NotPassed,
     }
 }
 
@@ -453,19 +456,20 @@ impl Buffer {
         }
     }
 
-    // The place of an access by the second stage, which is kept. It is compiled with the walk into each
+    // What is made of an access by the second stage. A place is kept. It is compiled with the walk into each
     // caller, which knows the kind of access.
     #[inline(always)]
-    fn walk(&mut self, memory: &PhysMem, state: &HartState, va: u64, access: Access) -> Option<u64>
+    fn walk(&mut self, memory: &PhysMem, state: &HartState, va: u64, access: Access) -> Lookup
         requires serves { ServesHart self.old state.now memory.now }
-        ensures place { result ≡ place_on_hart state.now memory.now va access }
-        ensures inside { IfSome result (λ place. IsPlaceOf (machine_memory memory.now) va place) }
+        ensures lookup { result ≡ lookup_on_hart state.now memory.now va access }
+        ensures inside { LookupIn memory.now va result }
         ensures serves { ServesHart self.new state.now memory.now }
         ensures walks { self.new.walks ≡ one_more_walk self.old.walks }
     {
         self.walks = one_more_walk(self.walks);
         self.read.begin();
-        match place_noted(memory, &self.context, state, va, access, &mut self.read) {
+        let lookup = lookup_noted(memory, &self.context, state, va, access, &mut self.read);
+        match lookup.place() {
             Some(place) => {
                 memory.is_whole();
                 let slot = Slot {
@@ -474,32 +478,32 @@ impl Buffer {
                     bits: self.read.recent(),
                 };
                 self.slots.keep(va, access, slot);
-                Some(place)
+                lookup
             }
-            None => None,
+            None => lookup,
         }
     }
 
-    /// The place of an access for which no table of the first stage is walked, where the second stage gives
-    /// one as the registers and memory are, and else none.
+    /// What is made of an access for which no table of the first stage is walked, as the registers and memory
+    /// are.
     #[inline(always)]
-    pub fn place(
+    pub fn look_up(
         &mut self,
         memory: &PhysMem,
         state: &HartState,
         va: u64,
         access: Access,
-    ) -> Option<u64>
+    ) -> Lookup
         requires serves { ServesHart self.old state.now memory.now }
-        ensures place { result ≡ place_on_hart state.now memory.now va access }
-        ensures inside { IfSome result (λ place. IsPlaceOf (machine_memory memory.now) va place) }
+        ensures lookup { result ≡ lookup_on_hart state.now memory.now va access }
+        ensures inside { LookupIn memory.now va result }
         ensures serves { ServesHart self.new state.now memory.now }
         ensures walks { (self.new.walks ≡ self.old.walks)
             ⊎ (self.new.walks ≡ one_more_walk self.old.walks) }
     {
         memory.is_whole();
         match self.find(va, access) {
-            Some(place) => Some(place),
+            Some(place) => Lookup::InMemory(place),
             None => self.walk(memory, state, va, access),
         }
     }

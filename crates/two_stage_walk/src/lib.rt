@@ -14,7 +14,8 @@ pub use arch_defs::{Found, MissingPlace, SecondWalkEnd};
 pub use devices::is_on_device;
 pub use guest_addresses::{second_root_of, second_walk};
 pub use phys_mem::Mem;
-pub use second_places::{second_noted, second_place};
+pub use second_answers::{SecondAnswer, second_noted};
+pub use second_places::second_place;
 pub use translating::{Place, locate, translate, translate_found};
 pub use traps::{guest_page_trap, missing_place_trap};
 pub use virtual_addresses::{

@@ -1,14 +1,16 @@
 use Rattle.std.proofs.Common.{◌+◌, ◌∙◌, refl}
+use Rattle.rv64_hart.proofs.PlainSteps.{plain_runs}
 use Rattle.rv64_hart.proofs.Runs.{runs_both}
 use Rattle.rv64_hart.proofs.steps.instructions.Goals as goal
 
-pub returns-in-Some-word-clause-run : goal.returns-in-Some-word-clause-run
-returns-in-Some-word-clause-run c =
+pub returns-in-Some-clause-run : goal.returns-in-Some-clause-run
+returns-in-Some-clause-run c =
     let common = c.common_instructions-common in
     let last = c.last-last in
     record {
       steps = runs_both common.result.made last.result.made (common.result.made + last.result.made) c.args.state.now c.args.memory.now c.args.tally.now.trace common.new.state common.new.memory common.new.tally.trace
-          last.new.state last.new.memory last.new.tally.trace refl common.ensures.run.steps last.ensures.run.steps;
+          last.new.state last.new.memory last.new.tally.trace refl
+          (plain_runs common.result.made c.args.state.now c.args.memory.now c.args.tally.now.trace common.new.state common.new.memory common.new.tally.trace common.ensures.run.steps) last.ensures.run.steps;
       raises = last.ensures.run.raises;
       only = (last.ensures.run.only.0 ∙ common.ensures.run.only.0, last.ensures.run.only.1 ∙ common.ensures.run.only.1);
       serves = last.ensures.run.serves;
