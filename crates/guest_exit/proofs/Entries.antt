@@ -61,13 +61,13 @@ use Rattle.hosted_steps.proofs.Stands.{none_written}
 some_more : (n : ℕ) → 0 < n + 1
 some_more n = omega arith
 
-one_more_suc : (n : ℕ) → n + 1 ≡ suc n
+pub one_more_suc : (n : ℕ) → n + 1 ≡ suc n
 one_more_suc n = omega arith
 
-below_limit : (n limit : ℕ) → suc n ≤ limit → n < limit
+pub below_limit : (n limit : ℕ) → suc n ≤ limit → n < limit
 below_limit n limit h = omega (arith, h)
 
-within_limit : (n limit : ℕ) → suc n ≤ limit → n ≤ limit
+pub within_limit : (n limit : ℕ) → suc n ≤ limit → n ≤ limit
 within_limit n limit h = omega (arith, h)
 
 more_than_one : (n limit : ℕ) → suc n < limit → 1 < limit
@@ -386,6 +386,26 @@ watched_own true t (Exits trap) q some trapped = absurd (none-some q some)
 last_of : (m now : Machine) (n : ℕ) → run m n ≡ now → now ≡ run m (n + 1 - 1)
 last_of m now n is = let same : n + 1 - 1 ≡ n = omega arith in rw same (sym is)
 
+-- after steps of which none was a trap the machine is where the hart is, whose next step is the machine's
+pub there_at : (part : Layout) (pool : Pooled) (m : Machine) (memory : List ℕ) (t n : ℕ) (p : Progress) → (ran : Ran part pool m memory t n p) → p.trapped ≡ false
+    → run m n ≡ placed m (guest_state_of ran.own m.platform.virt) (ram_of part.blocks p.memory) n
+there_at part pool m memory t n p ran fresh = rw fresh at ran.machine
+
+pub next_follows : (part : Layout) (pool : Pooled) (m : Machine) (memory : List ℕ) (limit t n : ℕ) (p : Progress) → Lasts m.platform limit → IsAt part pool m memory → n < limit
+    → (ran : Ran part pool m memory t n p) → p.trapped ≡ false
+    → Follows part (root_for part pool m.platform.virt) (placed m (guest_state_of ran.own m.platform.virt) (ram_of part.blocks p.memory) n) p.memory (hart_step p.state p.memory)
+next_follows part pool m memory limit t n p lasts at h ran fresh =
+    let root = root_for part pool m.platform.virt in
+    let ram = ram_of part.blocks p.memory in
+    let there = there_at part pool m memory t n p ran fresh in
+    let now = placed m (guest_state_of ran.own m.platform.virt) ram n in
+    let is = ready part root m limit n ran.own p.state ram lasts h ran.keeps ran.stands there in
+    let placed_at : IsAt part pool now p.memory = at_next part pool m memory p.memory n ran.own at ran.only ran.held there in
+    let by_now : Follows part root now p.memory (hart_step (loaded_in part root now.platform.virt) p.memory) =
+    subst (λ root. Follows part root now p.memory (hart_step (loaded_in part root now.platform.virt) p.memory)) (same_root part pool m.platform ran.own n)
+    (followed part pool now p.memory is.own placed_at) in
+    subst (λ hart. Follows part root now p.memory (hart_step hart p.memory)) is.stands by_now
+
 ran_one : (part : Layout) (pool : Pooled) (m : Machine) (memory : List ℕ) (limit t n : ℕ) (p q : Progress) → m.platform.status ≡ Running → Lasts m.platform limit
     → IsAt part pool m memory → n < limit → Ran part pool m memory t n p → p.trapped ≡ false → progressed (is_watched m.platform.virt) p.trace (hart_step p.state p.memory) ≡ Some q
     → Ran part pool m memory t (n + 1) q
@@ -393,15 +413,9 @@ ran_one part pool m memory limit t n p q running lasts at h ran fresh some =
     let v = m.platform.virt in
     let root = root_for part pool v in
     let ram = ram_of part.blocks p.memory in
-    let there : run m n ≡ placed m (guest_state_of ran.own v) ram n = rw fresh at ran.machine in
+    let there = there_at part pool m memory t n p ran fresh in
     let now = placed m (guest_state_of ran.own v) ram n in
-    let is = ready part root m limit n ran.own p.state ram lasts h ran.keeps ran.stands there in
-    let placed_at : IsAt part pool now p.memory = at_next part pool m memory p.memory n ran.own at ran.only ran.held there in
-    let by_now : Follows part root now p.memory (hart_step (loaded_in part root now.platform.virt) p.memory) =
-    subst (λ root. Follows part root now p.memory (hart_step (loaded_in part root now.platform.virt) p.memory)) (same_root part pool m.platform ran.own n)
-    (followed part pool now p.memory is.own placed_at) in
-    let follows : Follows part root now p.memory (hart_step p.state p.memory) =
-    subst (λ hart. Follows part root now p.memory (hart_step hart p.memory)) is.stands by_now in
+    let follows = next_follows part pool m memory limit t n p lasts at h ran fresh in
     let stays : is_virtual now.platform.virt.mode ≡ is_virtual v.mode = saved_v (is_virtual v.mode) ran.own.mode in
     let by = made part root now p.memory (is_virtual v.mode) (hart_step p.state p.memory) p.trace q stays follows some in
     record {

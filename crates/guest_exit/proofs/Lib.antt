@@ -2,6 +2,7 @@ pub mod Alone
 pub mod Decided
 pub mod Enabled
 pub mod Entries
+pub mod EntryResults
 pub mod ExitCases
 pub mod ForGood
 pub mod HlvAccesses
@@ -12,6 +13,7 @@ pub mod NextSteps
 pub mod NoTable
 pub mod Pending
 pub mod Placed
+pub mod PlainEntries
 pub mod Pools
 pub mod SingleEntries
 pub mod SomeEnds

@@ -1,6 +1,6 @@
 -- What a machine's next step is about to do, by its fetch and its access to data: nothing, where an interrupt
 -- is due.
-use Rattle.std.specs.Prelude.{ℕ, List, Option, Some, None, option_map}
+use Rattle.std.specs.Prelude.{ℕ, ◌≡◌, List, Option, Some, None, option_map}
 use Rattle.arch_defs.specs.Interrupts.{due}
 use Rattle.op_defs.specs.declared.ops.DataAccess.{DataAccess}
 use Rattle.machine_defs.specs.Core.{fetch_place}
@@ -32,3 +32,7 @@ access_next m = access_with m (due m.platform.virt.csrs m.platform.virt.mode)
 abbrev pub at_own_address : List ℕ → DataAccess × ℕ → Option (DataAccess × ℕ)
 at_own_address blocks (wanted, place) =
     option_map (λ address. (wanted, address)) (own_address blocks place)
+
+-- what its next instruction wants of data, unless an interrupt is due
+abbrev pub WantsUnlessDue : Machine → Option DataAccess → Type 0
+WantsUnlessDue m wanted = due m.platform.virt.csrs m.platform.virt.mode ≡ None → wanted ≡ data_wanted m

@@ -1,8 +1,9 @@
 // One entry of the hart.
 
-ghost use Rattle.std.specs.Prelude.{◌≡◌, ◌+◌, ◌%◌, ◌^◌, ◌<◌, ℕ, is_some};
+ghost use Rattle.std.specs.Prelude.{◌≡◌, ◌+◌, ◌%◌, ◌^◌, ◌<◌, ◌≤◌, ℕ, is_some};
 ghost use Rattle.arch_defs.specs.Interrupts.{due};
 ghost use Rattle.machine_defs.specs.declared.events.Event.TheVariants.{Plain, System};
+ghost use Rattle.machine_defs.specs.Runs.{events, plain_count};
 ghost use Rattle.rv64_hart.specs.Steps.{is_vs_trap, progress};
 ghost use Rattle.instruction_laws.specs.HostPlaces.{in_ram};
 ghost use Rattle.instruction_laws.specs.Renaming.{ReservesWithin};
@@ -46,6 +47,29 @@ pub fn enter(
     let stop = hart.run(memory, limit, watch, tally);
     guest.take_steps(hart.state(), is_vs_trap(&stop.why), stop.taken);
     stop
+}
+
+/// Enters the hart, loaded for the guest, for plain instructions alone, at most `limit`. Answers how many it
+/// has made. It may make fewer, and none.
+pub fn enter_plain(
+    guest: &mut Guest,
+    hart: &mut Hart,
+    memory: &mut PhysMem,
+    limit: u64,
+    tally: &mut Tally,
+) -> u64
+    requires can { CanEnter guest.old memory.old limit }
+    requires room { HasRoomForEntry limit tally.old }
+
+    ensures entered { HasEntered result guest.old memory.old guest.new memory.new tally.old tally.new }
+    ensures plain { plain_count (events (machine_of guest.old memory.old) result) ≡ result }
+    ensures within { result ≤ limit }
+{
+    let root = root_frame_of(guest);
+    load(&guest.virt, &guest.part, root, hart.state_mut());
+    let taken = hart.run_plain(memory, limit, tally);
+    guest.take_steps(hart.state(), false, taken);
+    taken
 }
 
 /// What an entry for one step has made of it.

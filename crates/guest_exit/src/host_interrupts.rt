@@ -4,7 +4,7 @@ ghost use Rattle.std.specs.Prelude.{◌≡◌, List, Some, ℕ};
 ghost use Rattle.arch_defs.specs.Interrupts.{vs_bit};
 ghost use Rattle.arch_defs.specs.Traps.{is_virtual};
 ghost use Rattle.guest_settings.specs.declared.statuses.Status.TheVariants.{Running};
-ghost use Rattle.hosted_steps.specs.HartSteps.{is_hosts};
+ghost use Rattle.hosted_steps.specs.HartSteps.{host_takes, is_hosts};
 ghost use Rattle.guest_exit.specs.Steps.{CanStep, TakesIfDue};
 ghost use Rattle.guest_exit.specs.View.{IsPlaced, KeepsSpaces};
 
@@ -33,6 +33,16 @@ pub fn interrupt(guest: &mut Guest) -> bool
                 false
             }
         }
+        None => false,
+    }
+}
+
+/// Whether an interrupt is due that the host has to take.
+pub fn host_takes(guest: &Guest) -> bool
+    ensures { result ≡ host_takes guest.now.virt }
+{
+    match pending(&guest.virt.csrs, guest.virt.mode) {
+        Some(code) => is_hosts(code, &guest.virt),
         None => false,
     }
 }

@@ -9,6 +9,7 @@ pub mod LastTries
 pub mod Leaving
 pub mod Parts
 pub mod Placing
+pub mod PlainRuns
 pub mod Remade
 pub mod Rooms
 pub mod SavableGuests

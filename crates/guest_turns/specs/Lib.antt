@@ -4,6 +4,7 @@ pub mod Hosted
 pub mod Hosting
 pub mod Limits
 pub mod Moves
+pub mod PlainRuns
 pub mod Remaking
 pub mod Saving
 pub mod Sources

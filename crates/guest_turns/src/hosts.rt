@@ -5,7 +5,7 @@ ghost use Rattle.arch_defs.specs.Frames.{Only, most_frames, within};
 ghost use Rattle.arch_defs.specs.Layouts.{named_by};
 ghost use Rattle.arch_defs.specs.Memory.{ram_memory};
 ghost use Rattle.frame_split.specs.Shares.{IsSplit, blocks_of_all, frames_with};
-ghost use Rattle.guest_exit.specs.NextSteps.{access_next, word_next};
+ghost use Rattle.guest_exit.specs.NextSteps.{WantsUnlessDue, access_next, word_next};
 ghost use Rattle.guest_save.specs.Forms.{form};
 ghost use Rattle.guest_save.specs.Savable.{IsSavable};
 ghost use Rattle.guest_settings.specs.declared.statuses.Status.TheVariants.{Running};
@@ -22,6 +22,7 @@ ghost use Rattle.guest_turns.specs.Account.{Accounted, CountsTry, HasRoomForTurn
 ghost use Rattle.guest_turns.specs.Hosted.{count_set, is_set, lowest, machine_at, part_at, KeepsShares};
 ghost use Rattle.guest_turns.specs.Limits.{AreBootable, frames_for, needs_of};
 ghost use Rattle.guest_turns.specs.Moves.{HasMoved, HasRetired};
+ghost use Rattle.guest_turns.specs.PlainRuns.{CountsPlainRun, HasRoomForPlainRun, IsPlainRun};
 ghost use Rattle.guest_turns.specs.Saving.{MayBeSaved};
 ghost use Rattle.guest_turns.specs.Sources.{AreBootableSources, machines_of_sources, needs_of_sources};
 ghost use Rattle.guest_turns.specs.Tries.{HasTried, events_made};
@@ -32,6 +33,8 @@ use crate::addresses::{hlv_place_in, place_in};
 use crate::booting::{guests_from, lay_out, share};
 use crate::free_blocks::FreeBlocks;
 use crate::memory_views::MemoryView;
+use crate::next_steps::{access_in, found_in, step_in, word_in};
+use crate::plain_runs::plain_run_of;
 use crate::questions::{Question, answer_in};
 use crate::relocation::{MoveFault, Moves, shift};
 use crate::retirement::vacate;
@@ -39,7 +42,7 @@ use crate::sources::{Source, fresh_sources};
 use crate::trying::{Made, try_of};
 use crate::turning::turn_of;
 use arch_defs::{Access, Virtual};
-use guest_exit::Guest;
+use guest_exit::{Guest, NextStep};
 use guest_save::put;
 use guest_settings::MOST_GUESTS;
 use machine_defs::{GuestSpec, Status};
@@ -215,6 +218,23 @@ impl Host {
         turn_of(guest, &mut self.hart, &mut self.memory, k, tally)
     }
 
+    /// Makes plain steps alone, at most `k`, of the machine of a guest that has not retired, and answers how
+    /// many. It may make fewer, and none. All other machines stay as they were, and no byte outside the
+    /// guest's part changes. The tally gets the account of the hart.
+    pub fn run_plain(&mut self, g: u32, k: u64, tally: &mut Tally) -> u64
+        requires guest { g < length self.old.machines }
+        requires active { is_set self.old.retired g ≡ false }
+        requires room { HasRoomForPlainRun (machine_at self.old.machines g) k tally.old }
+        ensures machines { self.new.machines ≡ updated g (λ m. run m result) self.old.machines }
+        ensures shares { KeepsShares self.old self.new }
+        ensures isolated { Only (named_by (part_at self.old.parts g)) self.old.memory self.new.memory }
+        ensures plain { IsPlainRun (machine_at self.old.machines g) k result }
+        ensures account { CountsPlainRun (machine_at self.old.machines g) result tally.old tally.new }
+    {
+        let guest = &mut self.guests[g as usize];
+        plain_run_of(guest, &mut self.hart, &mut self.memory, k, tally)
+    }
+
     /// Makes one try of the next step of the machine of a guest that has not retired and goes on. A try fills
     /// a cached translation that the step lacks, or is the last: it makes the step, and answers what it was,
     /// or the step waits for good. All other machines stay as they were, and no byte outside the guest's part
@@ -240,34 +260,55 @@ impl Host {
     }
 
     /// The word of the instruction that the next step of the machine of a guest that has not retired makes.
-    /// None where an interrupt is due, and where the fetch has no place in RAM.
-    pub fn word_next(&self, g: u32) -> Option<u32>
-        requires guest { g < length self.now.machines }
-        requires active { is_set self.now.retired g ≡ false }
-        ensures { result ≡ word_next (machine_at self.now.machines g) }
+    /// None where an interrupt is due, and where the fetch has no place in RAM. No machine changes.
+    pub fn word_next(&mut self, g: u32) -> Option<u32>
+        requires guest { g < length self.old.machines }
+        requires active { is_set self.old.retired g ≡ false }
+        ensures word { result ≡ word_next (machine_at self.old.machines g) }
+        ensures stays { self.new ≡ self.old }
     {
-        self.view(g).word_next()
+        let guest = &self.guests[g as usize];
+        word_in(guest, &mut self.hart, &self.memory)
+    }
+
+    /// What the next instruction of the machine of a guest that has not retired wants of data, unless an
+    /// interrupt is due, and the first-stage translations that the step finds. No machine changes.
+    pub fn step_next(&mut self, g: u32) -> NextStep
+        requires guest { g < length self.old.machines }
+        requires active { is_set self.old.retired g ≡ false }
+        ensures wanted { WantsUnlessDue (machine_at self.old.machines g) result.wanted }
+        ensures found { leaves_list result.found ≡ found_next (machine_at self.old.machines g) }
+        ensures fits { LeavesFit result.found }
+        ensures stays { self.new ≡ self.old }
+    {
+        let guest = &self.guests[g as usize];
+        step_in(guest, &mut self.hart, &self.memory)
     }
 
     /// The first-stage translations that the next step of the machine of a guest that has not retired finds.
-    pub fn found_next(&self, g: u32) -> Leaves
-        requires guest { g < length self.now.machines }
-        requires active { is_set self.now.retired g ≡ false }
-        ensures value { leaves_list result ≡ found_next (machine_at self.now.machines g) }
+    /// No machine changes.
+    pub fn found_next(&mut self, g: u32) -> Leaves
+        requires guest { g < length self.old.machines }
+        requires active { is_set self.old.retired g ≡ false }
+        ensures value { leaves_list result ≡ found_next (machine_at self.old.machines g) }
         ensures fits { LeavesFit result }
+        ensures stays { self.new ≡ self.old }
     {
-        self.view(g).found_next()
+        let guest = &self.guests[g as usize];
+        found_in(guest, &mut self.hart, &self.memory)
     }
 
     /// The access to data that the next instruction of the machine of a guest that has not retired makes in
     /// its own mode, and its place in RAM. None where an interrupt is due, and where there is no such access
-    /// or place.
-    pub fn access_next(&self, g: u32) -> Option<(DataAccess, u64)>
-        requires guest { g < length self.now.machines }
-        requires active { is_set self.now.retired g ≡ false }
-        ensures { result ≡ access_next (machine_at self.now.machines g) }
+    /// or place. No machine changes.
+    pub fn access_next(&mut self, g: u32) -> Option<(DataAccess, u64)>
+        requires guest { g < length self.old.machines }
+        requires active { is_set self.old.retired g ≡ false }
+        ensures access { result ≡ access_next (machine_at self.old.machines g) }
+        ensures stays { self.new ≡ self.old }
     {
-        self.view(g).access_next()
+        let guest = &self.guests[g as usize];
+        access_in(guest, &mut self.hart, &self.memory)
     }
 
     /// The place in RAM of the access of an HLV, HLVX or HSV of a guest that has not retired, by the walks
@@ -283,15 +324,15 @@ impl Host {
         hlv_place_in(&mut self.memory, guest, wanted)
     }
 
-    /// What answers a question about a guest that has not retired. Nothing changes.
-    pub fn ask<Q: Question>(&mut self, g: u32, question: &Q) -> Q::Answer
+    /// Gives what answers a question about a guest that has not retired. No machine changes.
+    pub fn ask<Q: Question>(&mut self, g: u32, question: &Q, answer: &mut Q::Answer)
         requires guest { g < length self.old.machines }
         requires active { is_set self.old.retired g ≡ false }
-        ensures answer { Q.answers question.now (machine_at self.old.machines g) result }
+        ensures answer { Q.answers question.now (machine_at self.old.machines g) answer.new }
         ensures stays { self.new ≡ self.old }
     {
         let guest = &self.guests[g as usize];
-        answer_in(&mut self.memory, guest, question)
+        answer_in(&mut self.memory, guest, question, answer);
     }
 
     /// Appends the form of the machine of a guest that has not retired.

@@ -7,6 +7,8 @@ mod free_blocks;
 mod hosts;
 mod laws;
 mod memory_views;
+mod next_steps;
+mod plain_runs;
 mod questions;
 mod relocation;
 mod remaking;

@@ -3,21 +3,16 @@
 ghost use Rattle.std.specs.Prelude.{◌≡◌, ◌*◌, ◌^◌, ◌<◌, ◌≤◌, length, slice_index};
 ghost use Rattle.std.specs.List.{sum_by};
 ghost use Rattle.arch_defs.specs.Memory.{block_size};
-ghost use Rattle.guest_exit.specs.NextSteps.{access_next, word_next};
 ghost use Rattle.guest_exit.specs.View.{machine_of};
 ghost use Rattle.guest_save.specs.Headers.{blocks_of};
 ghost use Rattle.guest_save.specs.Savable.{IsSavable};
 ghost use Rattle.guest_turns.specs.Hosting.{IsHosted};
 ghost use Rattle.guest_turns.specs.Saving.{MayBeSaved};
-ghost use Rattle.hosted_steps.specs.ExitCases.{found_next};
-ghost use Rattle.rv64_hart.specs.Leaves.{LeavesFit, leaves_list};
 
 use arch_defs::{Entry, FirstBuffer, FirstEntry, GuestRoot};
-use guest_exit::{Guest, access_next, found_next, word_next};
+use guest_exit::Guest;
 use guest_save::{Header, Snapshot, numbers_fit};
-use op_defs::DataAccess;
 use phys_mem::{BLOCK_SIZE, PhysMem};
-use rv64_hart::Leaves;
 use std::marker::Model;
 
 /// A guest with the memory that it is in, which contracts see as its lone machine.
@@ -46,29 +41,6 @@ impl<'a> MemoryView<'a> {
         ensures { result ≡ machine_of guest.now memory.now }
     {
         MemoryView { guest, memory }
-    }
-
-    /// The word of the instruction that its next step makes, if that has one.
-    pub fn word_next(&self) -> Option<u32>
-        ensures { result ≡ word_next self.now }
-    {
-        word_next(self.guest, self.memory)
-    }
-
-    /// The first-stage translations that its next step finds.
-    pub fn found_next(&self) -> Leaves
-        ensures value { leaves_list result ≡ found_next self.now }
-        ensures fits { LeavesFit result }
-    {
-        found_next(self.guest, self.memory)
-    }
-
-    /// The access to data that its next instruction makes in its own mode, and its place in RAM, if there is
-    /// one.
-    pub fn access_next(&self) -> Option<(DataAccess, u64)>
-        ensures { result ≡ access_next self.now }
-    {
-        access_next(self.guest, self.memory)
     }
 
     /// The machine can be saved, where it has what a host does not keep of it.

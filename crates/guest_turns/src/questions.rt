@@ -15,19 +15,24 @@ pub trait Question {
     // What its answer says of a machine.
     ghost answers: { Self → Machine → Self.Answer → Type 0 };
 
-    /// The answer for a guest that has this RAM.
-    fn answer(&self, guest: &Guest, ram: &Ram<'_>) -> Self::Answer
+    /// Gives the answer for a guest that has this RAM, in place of another.
+    fn answer(&self, guest: &Guest, ram: &Ram<'_>, answer: &mut Self::Answer)
         requires hosted { IsHosted guest.now ram.now.mem.now }
         requires ram { ram.now.part.now ≡ guest.now.part }
-        ensures { answers self.now (machine_of guest.now ram.now.mem.now) result };
+        ensures { answers self.now (machine_of guest.now ram.now.mem.now) answer.new };
 }
 
-/// The answer to a question about a guest in this memory.
-pub fn answer_in<Q: Question>(memory: &mut PhysMem, guest: &Guest, question: &Q) -> Q::Answer
+/// Gives the answer to a question about a guest in this memory.
+pub fn answer_in<Q: Question>(
+    memory: &mut PhysMem,
+    guest: &Guest,
+    question: &Q,
+    answer: &mut Q::Answer,
+)
     requires { IsHosted guest.now memory.old }
-    ensures answer { Q.answers question.now (machine_of guest.now memory.old) result }
+    ensures answer { Q.answers question.now (machine_of guest.now memory.old) answer.new }
     ensures stays { memory.new ≡ memory.old }
 {
     let ram = Ram::new(memory, &guest.part);
-    question.answer(guest, &ram)
+    question.answer(guest, &ram, answer);
 }

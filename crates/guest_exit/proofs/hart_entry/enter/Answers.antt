@@ -1,13 +1,10 @@
-use Rattle.std.proofs.Common.{◌+◌, ◌^◌, ◌≤◌, ap, arith, refl, sym, subst, ◌∙◌}
-use Rattle.arch_defs.specs.declared.registers.Virtual.{Virtual}
+use Rattle.std.proofs.Common.{arith, sym, subst}
 use Rattle.rv64_hart.specs.Steps.{is_vs_trap, progress}
-use Rattle.guest_exit.specs.HartEntry.{IsStopped, is_watched, moved}
-use Rattle.guest_exit.specs.View.{KeepsSpaces, machine_of, platform_of}
-use Rattle.shadow_pool.specs.Slots.{Pooled, room_of, spaces_of}
-use Rattle.guest_exit.proofs.Alone.{machine_as}
-use Rattle.guest_exit.proofs.Entries.{none_taken, ran, steps_from, stopped, taken_is}
+use Rattle.guest_exit.specs.HartEntry.{IsStopped, is_watched}
+use Rattle.guest_exit.specs.View.{machine_of}
+use Rattle.guest_exit.proofs.EntryResults.{entered}
+use Rattle.guest_exit.proofs.Entries.{none_taken, steps_from, stopped}
 use Rattle.guest_exit.proofs.Moments.{before_timer}
-use Rattle.guest_exit.proofs.Placed.{placed_after}
 use Rattle.guest_exit.proofs.hart_entry.enter.Goals as goal
 
 pub returns-clause-hart : goal.returns-clause-hart
@@ -22,31 +19,10 @@ returns-clause-hart c =
 
 pub returns-clause-entered : goal.returns-clause-entered
 returns-clause-entered c =
-    let guest = c.args.guest.now in
-    let part = guest.part in
-    let pool = guest.pool in
-    let m = machine_of guest c.args.memory.now in
-    let can = c.requires.can in
-    let q = progress c.run-stop.new.self.state c.run-stop.new.memory c.run-stop.new.tally.trace (is_vs_trap c.run-stop.result.why) in
-    let hart = returns-clause-hart c in
-    let is = ran part pool m c.args.memory.now c.args.limit c.args.tally.now.trace can.running can.lasts can.placed c.run-stop.result.taken c.run-stop.ensures.within q hart.steps in
-    let goes = c.take_steps.ensures.goes in
-    let fixed : KeepsSpaces guest c.take_steps.new.self = record { part = goes.keeps.part; device = goes.keeps.device; pool = goes.keeps.pool } in
-    let saves = hart.saves ∙ ap (λ (virt : Virtual). moved (platform_of guest) virt c.run-stop.result.taken)
-    (taken_is part q.state.virt is.own guest.virt q.trapped can.placed.once is.held is.stands.state) in
-    let steps =
-    machine_as guest c.take_steps.new.self c.args.memory.now c.run-stop.new.memory _ _ _ fixed.part fixed.device saves refl
-    (ap spaces_of fixed.pool) (ap room_of fixed.pool) (ap (λ (pool : Pooled). pool.most) fixed.pool) ∙ sym is.machine in
-    record {
-      run = record { ready = is.need; steps = steps };
-      goes = record { status = goes.status ∙ can.running; steps = goes.made; clock = goes.clock; current = c.take_steps.ensures.current };
-      keeps = record {
-        only = is.only;
-        placed = placed_after guest c.take_steps.new.self c.args.memory.now c.run-stop.new.memory c.run-stop.result.taken can.placed fixed is.only steps;
-        keeps = fixed;
-      };
-      account = record { entries = c.run-stop.ensures.entries; taken = c.run-stop.ensures.taken; trace = is.trace };
-    }
+    entered c.args.guest.now c.take_steps.new.self c.args.memory.now c.run-stop.new.memory c.run-stop.new.self.state c.args.limit c.run-stop.result.taken (is_vs_trap c.run-stop.result.why)
+    c.args.tally.now c.run-stop.new.tally c.requires.can c.run-stop.ensures.within (returns-clause-hart c).steps
+    (record { saves = (returns-clause-hart c).saves; current = c.take_steps.ensures.current; goes = c.take_steps.ensures.goes })
+    (record { entries = c.run-stop.ensures.entries; taken = c.run-stop.ensures.taken })
 
 pub returns-clause-why : goal.returns-clause-why
 returns-clause-why c =

@@ -13,6 +13,6 @@ returns-in-None c =
     let guest = c.args.guest.now in
     let m = machine_of guest c.args.memory.now in
     c.at_own_address.ensures
-    ∙ ap (option_and_then (at_own_address guest.part.blocks)) (rw c.hart_state_for.ensures at c.access_at_pc.ensures)
+    ∙ ap (option_and_then (at_own_address guest.part.blocks)) (rw c.load_for.ensures at c.access_at_pc.ensures)
     ∙ access_is guest.part guest.pool m c.args.memory.now c.requires
     ∙ access_undue m (sym c.pending.ensures ∙ c.in-None.is)

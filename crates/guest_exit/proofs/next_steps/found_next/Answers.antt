@@ -11,6 +11,6 @@ returns-in-Some-clause-value c =
 pub returns-in-None-clause-value : goal.returns-in-None-clause-value
 returns-in-None-clause-value c =
     let guest = c.args.guest.now in
-    (rw c.hart_state_for.ensures at c.found_at_exit.ensures.value)
+    (rw c.load_for.ensures at c.found_at_exit.ensures.value)
     ∙ found_is guest.part guest.pool (machine_of guest c.args.memory.now) c.args.memory.now
     (host_takes_none guest.virt (sym c.pending.ensures ∙ c.in-None.is)) c.requires

@@ -10,6 +10,6 @@ pub returns-in-None : goal.returns-in-None
 returns-in-None c =
     let guest = c.args.guest.now in
     let m = machine_of guest c.args.memory.now in
-    (rw c.hart_state_for.ensures at c.word_at_pc.ensures)
+    (rw c.load_for.ensures at c.word_at_pc.ensures)
     ∙ word_is guest.part guest.pool m c.args.memory.now c.requires
     ∙ word_undue m (sym c.pending.ensures ∙ c.in-None.is)
