@@ -55,8 +55,6 @@ pub under_table : (virt : Virtual) (entries : List Entry) (memory : Memory) (va 
 unfolding first_stage
 under_table virt entries memory va access mode asid ppn folding table = rw (folding, table) refl
 
-pub ruleset unknown_rules = (unfolded, under_bare, under_table)
-
 -- what is known is by the translation that serves the access
 known_is : (virt : Virtual) (va : ℕ) (access : Access)
     → known_of virt.first (tag_of virt) virt va access ≡ option_map (λ e. leaf_address (first_leaf e) va) (first_served virt va access)
@@ -119,5 +117,3 @@ pub unserved : (virt : Virtual) (entries : List Entry) (memory : Memory) (va : �
 unserved virt entries memory va width access is_multiple is =
     aligned virt entries memory va width access None is_multiple
     (known_is virt va access ∙ ap (option_map (λ one. leaf_address (first_leaf one) va)) is)
-
-pub ruleset access_rules = (misaligned, served, unserved)

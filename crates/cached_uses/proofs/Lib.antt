@@ -1,3 +1,4 @@
+pub mod Added
 pub mod Each
 pub mod KnownAddresses
 pub mod Leading

@@ -1,6 +1,6 @@
 // The cached translations by which an access goes.
 
-ghost use Rattle.std.specs.Prelude.{◌≡◌, ◌+◌, ◌<◌, ◌≤◌, ◌==◌, ◌%◌, ◌++◌, [], ◌∷◌, None, length};
+ghost use Rattle.std.specs.Prelude.{◌≡◌, ◌+◌, ◌<◌, ◌≤◌, ◌==◌, ◌%◌, ◌++◌, [], ◌∷◌, None, true, length};
 ghost use Rattle.std.specs.List.{All, flat_map};
 ghost use Rattle.arrayvec.specs.ArrayVec.{array_vec_len};
 ghost use Rattle.arch_defs.specs.declared.modes.Access.TheVariants.{Implicit};
@@ -30,11 +30,11 @@ fn is_aligned(va: u64, width: Width) -> bool
 
 // Adds the uses by the reads of the entries at these places.
 #[tactic(auto, using(crate::proofs::Each::each_rules))]
-fn add_reads(uses: &mut ArrayVec<Use, 5>, virt: &Virtual, entries: &[Entry], places: &[u64])
-    requires room { array_vec_len uses.old + length places.now ≤ 4 }
+fn add_reads(uses: &mut ArrayVec<Use, 10>, virt: &Virtual, entries: &[Entry], places: &[u64])
+    requires room { array_vec_len uses.old + length places.now ≤ 10 }
     ensures items { uses.new.items ≡ uses.old.items
         ++ flat_map (λ place. second_uses virt.now entries.now place Implicit) places.now }
-    ensures few { array_vec_len uses.new ≤ 4 }
+    ensures few { array_vec_len uses.new ≤ array_vec_len uses.old + length places.now }
 {
     for i in 0..places.len() {
         add_second(uses, virt, entries, places[i], Access::Implicit);
@@ -42,15 +42,17 @@ fn add_reads(uses: &mut ArrayVec<Use, 5>, virt: &Virtual, entries: &[Entry], pla
 }
 
 // Adds the use by what the first stage passes on.
+#[tactic(auto, using(crate::proofs::Added::added_rules))]
 fn add_passed(
-    uses: &mut ArrayVec<Use, 5>,
+    uses: &mut ArrayVec<Use, 10>,
     virt: &Virtual,
     entries: &[Entry],
     access: Access,
     found: Found,
 )
-    requires { array_vec_len uses.old < 5 }
-    ensures { uses.new.items ≡ uses.old.items ++ passed_uses virt.now entries.now access found }
+    requires { array_vec_len uses.old < 10 }
+    ensures items { uses.new.items ≡ uses.old.items ++ passed_uses virt.now entries.now access found }
+    ensures few { array_vec_len uses.new ≤ array_vec_len uses.old + 1 }
 {
     match found {
         Found::Passes(address) => add_second(uses, virt, entries, address, access),
@@ -58,8 +60,10 @@ fn add_passed(
     }
 }
 
-// The uses by the walk of a table of the first stage, in a state that folds.
-fn walked_uses<M: Mem>(
+// Adds the uses by the walk of a table of the first stage, in a state that folds.
+#[tactic(auto, using(crate::proofs::Added::added_rules))]
+fn add_walked<M: Mem>(
+    uses: &mut ArrayVec<Use, 10>,
     virt: &Virtual,
     entries: &[Entry],
     mem: &M,
@@ -67,97 +71,116 @@ fn walked_uses<M: Mem>(
     ppn: u64,
     va: u64,
     access: Access,
-) -> ArrayVec<Use, 5>
+)
     requires backed { M.is_backed mem.now }
     requires inside { All (LeadsInto (M.memory mem.now)) entries.now }
-    ensures { result.items ≡ walked_uses virt.now entries.now (M.memory mem.now) shape ppn va access }
+    requires room { array_vec_len uses.old ≤ 5 }
+    ensures items { uses.new.items ≡ uses.old.items
+        ++ walked_uses virt.now entries.now (M.memory mem.now) shape ppn va access }
+    ensures few { array_vec_len uses.new ≤ array_vec_len uses.old + 5 }
 {
-    let mut uses = ArrayVec::new();
     let mxr = virt.csrs.hs.status.mxr;
     let words = FrontWords { entries, mxr, mem };
     let root = ppn % 0x1000_0000_0000;
     let places = places_met(&words, root, shape, va, access);
-    add_reads(&mut uses, virt, entries, places.as_slice());
+    add_reads(uses, virt, entries, places.as_slice());
     let end = walk(&words, root, shape, va, access);
     let found = found_by(privilege_of(&virt.csrs, virt.mode), access, va, end);
-    add_passed(&mut uses, virt, entries, access, found);
-    uses
+    add_passed(uses, virt, entries, access, found);
 }
 
-// The uses where the first-stage translation is not cached.
-#[tactic(auto, using(crate::proofs::KnownAddresses::unknown_rules), unfolding(arch_defs::specs::Translation::first_stage))]
-fn unknown_uses<M: Mem>(
+// Adds the uses by an address of which the first-stage translation is not cached, in a state that folds.
+#[tactic(auto, using(crate::proofs::Added::added_rules), unfolding(arch_defs::specs::Translation::first_stage))]
+fn add_folded<M: Mem>(
+    uses: &mut ArrayVec<Use, 10>,
     virt: &Virtual,
     entries: &[Entry],
     mem: &M,
     va: u64,
     access: Access,
-) -> ArrayVec<Use, 5>
+)
+    requires folds { folds virt.now ≡ true }
     requires backed { M.is_backed mem.now }
     requires inside { All (LeadsInto (M.memory mem.now)) entries.now }
-    ensures { result.items ≡ uses_if_known virt.now entries.now
+    requires room { array_vec_len uses.old ≤ 5 }
+    ensures items { uses.new.items ≡ uses.old.items ++ uses_if_known virt.now entries.now
         (mmu_through virt.now entries.now (M.memory mem.now)) va access None }
+    ensures few { array_vec_len uses.new ≤ array_vec_len uses.old + 5 }
 {
-    let mut uses = ArrayVec::new();
-    if !folds(virt) {
-        return uses;
-    }
     match supervisor_of(&virt.csrs, virt.mode).atp {
-        SupervisorRoot::Bare => {
-            add_second(&mut uses, virt, entries, va, access);
-            uses
-        }
+        SupervisorRoot::Bare => add_second(uses, virt, entries, va, access),
         SupervisorRoot::Table { mode, ppn, .. } => {
-            walked_uses(virt, entries, mem, mode.shape(), ppn, va, access)
+            add_walked(uses, virt, entries, mem, mode.shape(), ppn, va, access);
         }
     }
 }
 
-// The uses where it is.
-fn known_uses(
+// The same in any state.
+#[tactic(auto, using(crate::proofs::Added::added_rules))]
+fn add_unknown<M: Mem>(
+    uses: &mut ArrayVec<Use, 10>,
+    virt: &Virtual,
+    entries: &[Entry],
+    mem: &M,
+    va: u64,
+    access: Access,
+)
+    requires backed { M.is_backed mem.now }
+    requires inside { All (LeadsInto (M.memory mem.now)) entries.now }
+    requires room { array_vec_len uses.old ≤ 5 }
+    ensures items { uses.new.items ≡ uses.old.items ++ uses_if_known virt.now entries.now
+        (mmu_through virt.now entries.now (M.memory mem.now)) va access None }
+    ensures few { array_vec_len uses.new ≤ array_vec_len uses.old + 5 }
+{
+    if folds(virt) {
+        add_folded(uses, virt, entries, mem, va, access);
+    }
+}
+
+// Adds the uses by an address of which it is cached.
+#[tactic(auto, using(crate::proofs::Added::added_rules))]
+fn add_known(
+    uses: &mut ArrayVec<Use, 10>,
     virt: &Virtual,
     entries: &[Entry],
     entry: FirstEntry,
     va: u64,
     access: Access,
-) -> ArrayVec<Use, 5>
-    requires { HasGuestFrame entry }
-    ensures { result.items ≡ First entry va access ∷ second_uses virt.now entries.now
-        (leaf_address (first_leaf entry) va) access }
+)
+    requires fits { HasGuestFrame entry }
+    requires room { array_vec_len uses.old ≤ 5 }
+    ensures items { uses.new.items ≡ uses.old.items ++ First entry va access
+        ∷ second_uses virt.now entries.now (leaf_address (first_leaf entry) va) access }
+    ensures few { array_vec_len uses.new ≤ array_vec_len uses.old + 5 }
 {
-    let mut uses = ArrayVec::new();
     uses.push(Use::First(entry, va, access));
-    add_second(
-        &mut uses,
-        virt,
-        entries,
-        leaf_address(&entry.leaf(), va),
-        access,
-    );
-    uses
+    add_second(uses, virt, entries, leaf_address(&entry.leaf(), va), access);
 }
 
-/// The cached translations by which an access goes, in the order in which it uses them: by what is known of
-/// its address, or else by the walk of the first stage through the front space.
-#[tactic(auto, using(crate::proofs::KnownAddresses::access_rules))]
-pub fn access_uses<M: Mem>(
+/// Adds the cached translations by which an access goes, in the order in which it uses them: by what is known
+/// of its address, or else by the walk of the first stage through the front space.
+#[tactic(auto, using(crate::proofs::Added::access_rules))]
+pub fn add_uses<M: Mem>(
+    uses: &mut ArrayVec<Use, 10>,
     virt: &Virtual,
     entries: &[Entry],
     mem: &M,
     va: u64,
     width: Width,
     access: Access,
-) -> ArrayVec<Use, 5>
+)
     requires backed { M.is_backed mem.now }
     requires inside { All (LeadsInto (M.memory mem.now)) entries.now }
-    ensures { result.items ≡ access_uses virt.now entries.now
+    requires room { array_vec_len uses.old ≤ 5 }
+    ensures items { uses.new.items ≡ uses.old.items ++ access_uses virt.now entries.now
         (mmu_through virt.now entries.now (M.memory mem.now)) va width access }
+    ensures few { array_vec_len uses.new ≤ array_vec_len uses.old + 5 }
 {
     if !is_aligned(va, width) {
-        return ArrayVec::new();
+        return;
     }
     match first_served(virt, va, access) {
-        Some(entry) => known_uses(virt, entries, entry, va, access),
-        None => unknown_uses(virt, entries, mem, va, access),
+        Some(entry) => add_known(uses, virt, entries, entry, va, access),
+        None => add_unknown(uses, virt, entries, mem, va, access),
     }
 }

@@ -9,7 +9,6 @@ mod second_stage;
 mod steps;
 mod tables;
 
-pub use accesses::access_uses;
 pub use laws::{filled_lead_into, machines_go_through, steps_use};
 pub use run_log::{Leaf, Use};
 pub use steps::step_uses;

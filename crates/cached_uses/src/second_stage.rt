@@ -62,13 +62,13 @@ fn second_served(virt: &Virtual, entries: &[Entry], address: u64, kind: Access) 
 /// Adds the use of the second stage by an access at a guest physical address, if there is one.
 #[tactic(auto, using(crate::proofs::Lists::second_rules))]
 pub fn add_second(
-    uses: &mut ArrayVec<Use, 5>,
+    uses: &mut ArrayVec<Use, 10>,
     virt: &Virtual,
     entries: &[Entry],
     address: u64,
     kind: Access,
 )
-    requires { array_vec_len uses.old < 5 }
+    requires { array_vec_len uses.old < 10 }
     ensures items { uses.new.items ≡ uses.old.items ++ second_uses virt.now entries.now address kind }
     ensures few { array_vec_len uses.new ≤ array_vec_len uses.old + 1 }
 {

@@ -6,5 +6,4 @@ pub mod Leading
 pub mod Logging
 pub mod Numbers
 pub mod Runs
-pub mod Wanting
 pub mod Words

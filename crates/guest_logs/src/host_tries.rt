@@ -1,8 +1,7 @@
 // One guest on the hart, whose run is made try by try.
 
-ghost use Rattle.std.specs.Prelude.{◌≡◌, None, ◌∷◌, [], ◌+◌, ◌^◌, ◌<◌, ◌≤◌, ◌++◌, IfOk, List, length, option_map, slice_index};
+ghost use Rattle.std.specs.Prelude.{◌≡◌, ◌∷◌, [], ◌+◌, ◌^◌, ◌<◌, ◌≤◌, ◌++◌, IfOk, List, length, option_map, slice_index};
 ghost use Rattle.arch_defs.specs.declared.cached.Entry.{Entry};
-ghost use Rattle.arch_defs.specs.Interrupts.{due};
 ghost use Rattle.arch_defs.specs.Memory.{load, ram_memory};
 ghost use Rattle.arch_defs.specs.Spaces.{front};
 ghost use Rattle.guest_logs.specs.HostTries.{IsAlone, IsAnswerTo, access_seen, hlv_wanted};
@@ -11,7 +10,6 @@ ghost use Rattle.guest_turns.specs.Sources.{machine_of_source, IsBootableSource}
 ghost use Rattle.machine_defs.specs.HlvAccesses.{hlv_place};
 ghost use Rattle.machine_defs.specs.Runs.{run};
 ghost use Rattle.run_log.specs.Steps.{access_made_if};
-ghost use Rattle.run_log.specs.Uses.{data_next};
 ghost use Rattle.step_lines.specs.MadeAccesses.{made_seen};
 
 use crate::cached_names::cached_names;
@@ -30,7 +28,7 @@ use no_memory::NoMemory;
 use op_defs::DataAccess;
 use phys_mem::{BLOCK_SIZE, RAM_BASE};
 use run_log::Use;
-use rv64_hart::{Leaves, Tally, wanted_of};
+use rv64_hart::{Leaves, Tally};
 use std::alloc::Global;
 use std::marker::Model;
 
@@ -108,18 +106,6 @@ impl HostTries {
         value
     }
 
-    // The access to data that its next instruction wants in its own mode.
-    #[tactic(auto, using(crate::proofs::Wanting::wanted_rules))]
-    fn wanted(&self) -> Option<DataAccess>
-        ensures { due self.now.platform.virt.csrs self.now.platform.virt.mode ≡ None
-            → result ≡ data_next self.now }
-    {
-        match self.host.word_next(0) {
-            Some(word) => wanted_of(self.host.state(0), word),
-            None => None,
-        }
-    }
-
     // The access of an HLV, HLVX or HSV.
     #[tactic(auto, using(crate::proofs::Accesses::hlv_there, crate::proofs::Accesses::hlv_nowhere))]
     fn hlv_access(&mut self, wanted: &DataAccess) -> Option<MadeAccess>
@@ -194,6 +180,10 @@ impl TryRunner for HostTries {
         }
     }
 
+    fn run_plain(&mut self, k: u64) -> u64 {
+        self.host.run_plain(0, k, &mut Tally::new())
+    }
+
     fn status(&self) -> Status {
         self.host.status(0)
     }
@@ -231,22 +221,26 @@ impl TryRunner for HostTries {
     }
 
     #[tactic(auto, using(crate::proofs::Words::next_word_is))]
-    fn word(&self) -> Option<u32> {
+    fn word(&mut self) -> Option<u32> {
         self.host.word_next(0)
     }
 
-    fn found(&self) -> Leaves {
+    fn found(&mut self) -> Leaves {
         self.host.found_next(0)
     }
 
-    fn uses(&mut self) -> ArrayVec<Use, 10> {
+    fn uses(&mut self, used: &mut ArrayVec<Use, 10>) -> Leaves {
         steps_use();
-        let wanted = self.wanted();
-        self.host.ask(0, &NextUses { wanted })
+        let next = self.host.step_next(0);
+        let wanted = next.wanted;
+        self.host.ask(0, &NextUses { wanted }, used);
+        next.found
     }
 
     fn leaf_now(&mut self, used: &Use) -> Option<Leaf> {
-        self.host.ask(0, &LeafNow { used: *used })
+        let mut leaf = None;
+        self.host.ask(0, &LeafNow { used }, &mut leaf);
+        leaf
     }
 
     fn names(&self, alloc: Global) -> Result<Vec<CachedName>, NoMemory> {

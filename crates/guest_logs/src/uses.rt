@@ -27,23 +27,29 @@ impl Question for NextUses {
     ghost answers = { λ asked m uses. uses.items
         ≡ step_uses m.platform.virt (front m.spaces) (ram_memory m.ram) asked.wanted };
 
-    fn answer(&self, guest: &Guest, ram: &Ram<'_>) -> ArrayVec<Use, 10> {
-        step_uses(&guest.virt, guest.pool.front_entries(), ram, self.wanted)
+    fn answer(&self, guest: &Guest, ram: &Ram<'_>, answer: &mut ArrayVec<Use, 10>) {
+        step_uses(
+            answer,
+            &guest.virt,
+            guest.pool.front_entries(),
+            ram,
+            self.wanted,
+        );
     }
 }
 
 /// What the tables give now for the access of a use.
 #[derive(Drop)]
-pub struct LeafNow {
-    pub used: Use,
+pub struct LeafNow<'a> {
+    pub used: &'a Use,
 }
 
-impl Question for LeafNow {
+impl Question for LeafNow<'_> {
     type Answer = Option<Leaf>;
 
-    ghost answers = { λ asked m leaf. leaf ≡ leaf_now m asked.used };
+    ghost answers = { λ asked m leaf. leaf ≡ leaf_now m asked.used.now };
 
-    fn answer(&self, guest: &Guest, ram: &Ram<'_>) -> Option<Leaf> {
-        leaf_by_tables(guest.device, &guest.virt, ram, &self.used)
+    fn answer(&self, guest: &Guest, ram: &Ram<'_>, answer: &mut Option<Leaf>) {
+        *answer = leaf_by_tables(guest.device, &guest.virt, ram, self.used);
     }
 }

@@ -11,7 +11,7 @@ use Rattle.caching_steps.specs.declared.notes.Note.{Note}
 use Rattle.fill_laws.specs.Keeping.{IsOrderly}
 use Rattle.guest_settings.specs.declared.statuses.Status.TheVariants.{Running}
 use Rattle.machine_defs.specs.declared.events.Event.{Event}
-use Rattle.machine_defs.specs.Fills.{fill, needed}
+use Rattle.machine_defs.specs.Fills.{needed}
 use Rattle.machine_defs.specs.Machine.{Machine}
 use Rattle.machine_defs.specs.Runs.{run}
 use Rattle.run_log.specs.Fills.{next_filled}

@@ -1,4 +1,5 @@
 pub mod Counting
 pub mod Logging
+pub mod PlainRuns
 pub mod StaleLogs
 pub mod Steps

@@ -4,6 +4,7 @@
 mod counts;
 mod log_ends;
 mod logs;
+mod plain_runs;
 mod stale_logs;
 mod steps;
 

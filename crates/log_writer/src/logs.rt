@@ -17,6 +17,7 @@ ghost use Rattle.step_logs.specs.Befores.{before_of};
 
 use crate::counts::Counts;
 use crate::log_ends::LogEnd;
+use crate::plain_runs::pass_plain;
 use crate::stale_logs::StaleLog;
 use crate::steps::log_step;
 use log_lines::Kinds;
@@ -104,7 +105,13 @@ fn log_steps<R: TryRunner, O: Sink>(
 {
     let mut counts = Counts::new(alloc);
     let mut stale = StaleLog::new(alloc);
-    for number in from..from + steps {
+    let last = from + steps;
+    let mut next = from;
+    while next < last {
+        let number = next + pass_plain(runner, kinds, last - next);
+        if number == last {
+            return Ok(counts);
+        }
         if runner.status() != Status::Running {
             return Ok(counts);
         }
@@ -112,6 +119,7 @@ fn log_steps<R: TryRunner, O: Sink>(
         let event = log_step(runner, kinds, &before, &mut stale, out)?;
         count_step(&mut counts, kinds.counts, &before, &event)?;
         stale.renew_if(alloc, kinds.stale, runner)?;
+        next = number + 1;
     }
     Ok(counts)
 }

@@ -4,7 +4,7 @@ ghost use Rattle.std.specs.Prelude.{◌≡◌, ◌+◌, ◌^◌, ◌<◌, ◌≤
 ghost use Rattle.guest_settings.specs.declared.statuses.Status.TheVariants.{Running};
 ghost use Rattle.machine_defs.specs.Fills.{needed};
 ghost use Rattle.machine_defs.specs.Machine.{Machine};
-ghost use Rattle.machine_defs.specs.Runs.{run};
+ghost use Rattle.machine_defs.specs.Runs.{events, plain_count, run};
 ghost use Rattle.machine_defs.specs.Tries.{found_by_try, stages_of};
 ghost use Rattle.rv64_hart.specs.Leaves.{LeavesFit, leaves_list};
 ghost use Rattle.caching_steps.specs.Remembering.{cached_names};
@@ -38,6 +38,14 @@ pub trait TryRunner {
         ensures machine { machine self.new ≡ run (machine self.old) k }
         ensures most { (machine self.new).platform.steps ≤ (machine self.old).platform.steps + k };
 
+    /// Makes plain steps alone, at most `k`, and answers how many. It may make fewer, and none.
+    fn run_plain(&mut self, k: u64) -> u64
+        requires early { (machine self.old).platform.steps + k ≤ 2 ^ 61 }
+        ensures machine { machine self.new ≡ run (machine self.old) result }
+        ensures plain { plain_count (events (machine self.old) result) ≡ result }
+        ensures within { result ≤ k }
+        ensures most { (machine self.new).platform.steps ≤ (machine self.old).platform.steps + result };
+
     /// Whether it goes on.
     fn status(&self) -> Status
         ensures { result ≡ (machine self.now).platform.status };
@@ -66,19 +74,24 @@ pub trait TryRunner {
     fn value(&self, made: &MadeAccess) -> MemoryValue
         ensures { result ≡ value_in (machine self.now).ram (made_seen made.now) };
 
-    /// The word of its next instruction.
-    fn word(&self) -> Option<u32>
-        ensures { result ≡ step_word (machine self.now) };
+    /// The word of its next instruction. Nothing changes.
+    fn word(&mut self) -> Option<u32>
+        ensures word { result ≡ step_word (machine self.old) }
+        ensures stays { machine self.new ≡ machine self.old };
 
-    /// The translations of the first stage that its next try finds.
-    fn found(&self) -> Leaves
+    /// The translations of the first stage that its next try finds. Nothing changes.
+    fn found(&mut self) -> Leaves
         ensures found { leaves_list result
-            ≡ found_by_try (stages_of (machine self.now)) (machine self.now) }
-        ensures fits { LeavesFit result };
+            ≡ found_by_try (stages_of (machine self.old)) (machine self.old) }
+        ensures fits { LeavesFit result }
+        ensures stays { machine self.new ≡ machine self.old };
 
-    /// The cached translations by which its next try goes. Nothing changes.
-    fn uses(&mut self) -> ArrayVec<Use, 10>
-        ensures uses { result.items ≡ uses (machine self.old) }
+    /// Gives the cached translations by which its next try goes in place of others, and answers what it finds
+    /// of the first stage. Nothing changes.
+    fn uses(&mut self, used: &mut ArrayVec<Use, 10>) -> Leaves
+        ensures uses { used.new.items ≡ uses (machine self.old) }
+        ensures found { leaves_list result
+            ≡ found_by_try (stages_of (machine self.old)) (machine self.old) }
         ensures stays { machine self.new ≡ machine self.old };
 
     /// What its tables give now for the access of a use. Nothing changes.

@@ -13,6 +13,7 @@ ghost use Rattle.run_log.specs.Log.{text_of_lines};
 ghost use Rattle.run_log.specs.Seen.{Seen};
 ghost use Rattle.run_log.specs.Stale.{stale_lines};
 ghost use Rattle.run_log.specs.Traps.{step_events};
+ghost use Rattle.run_log.specs.Uses.{uses};
 ghost use Rattle.rv64_hart.specs.Leaves.{leaves_list};
 ghost use Rattle.caching_steps.specs.Noting.{first_name};
 ghost use Rattle.caching_steps.specs.Remembering.{TellsAlike, cached_names, found_notes, notes_of};
@@ -40,11 +41,13 @@ pub struct StaleUse {
     pub walked: Option<Leaf>,
 }
 
-/// The stale uses of a try, in the order in which it uses them, and what it finds of the first stage.
+/// The stale uses of a try, in the order in which it uses them, what it finds of the first stage, and all its
+/// uses.
 #[derive(Drop)]
 pub struct StaleUses {
     pub uses: ArrayVec<StaleUse, 10>,
     pub found: Leaves,
+    pub all: ArrayVec<Use, 10>,
 }
 
 // Adds a use of a machine's next try, if it is stale.
@@ -63,15 +66,15 @@ fn add_if_stale<R: TryRunner>(stale: &mut ArrayVec<StaleUse, 10>, runner: &mut R
     }
 }
 
-// Shows those of a machine's next try in place of others.
+// Shows those of these uses, which are those of a machine's next try, in place of others.
 #[tactic(auto, using(crate::proofs::StaleLines::each_rules), unfolding(crate::specs::StaleUses::stale_uses))]
-fn show_stale<R: TryRunner>(stale: &mut ArrayVec<StaleUse, 10>, runner: &mut R)
+fn show_stale<R: TryRunner>(stale: &mut ArrayVec<StaleUse, 10>, runner: &mut R, all: &[Use])
+    requires uses { all.now ≡ uses (R.machine runner.old) }
+    requires few { length all.now ≤ 10 }
     ensures items { stale.new.items ≡ stale_uses (R.machine runner.old) }
     ensures stays { R.machine runner.new ≡ R.machine runner.old }
 {
     stale.clear();
-    let uses = runner.uses();
-    let all = uses.as_slice();
     for i in 0..all.len() {
         add_if_stale(stale, runner, &all[i]);
     }
@@ -85,6 +88,7 @@ impl StaleUses {
         StaleUses {
             uses: ArrayVec::new(),
             found: Leaves::none(),
+            all: ArrayVec::new(),
         }
     }
 
@@ -93,8 +97,8 @@ impl StaleUses {
         ensures shown { ShowsUses (R.machine runner.old) self.new }
         ensures stays { R.machine runner.new ≡ R.machine runner.old }
     {
-        show_stale(&mut self.uses, runner);
-        self.found = runner.found();
+        self.found = runner.uses(&mut self.all);
+        show_stale(&mut self.uses, runner, self.all.as_slice());
     }
 
     /// Notes what the step has cached of the first stage, unless it waits for good.

@@ -53,13 +53,15 @@ pub fn held_by<R: TryRunner>(runner: &R) -> Held
 }
 
 // The same once a try has cached what it finds.
-fn held_with<R: TryRunner>(runner: &R) -> Held
-    requires none { due (R.machine runner.now).platform.virt.csrs (R.machine runner.now).platform.virt.mode
+fn held_with<R: TryRunner>(runner: &mut R) -> Held
+    requires none { due (R.machine runner.old).platform.virt.csrs (R.machine runner.old).platform.virt.mode
         ≡ None }
-    ensures { result ≡ held_of (with_found (stages_of (R.machine runner.now)) (R.machine runner.now)) }
+    ensures held { result ≡ held_of (with_found (stages_of (R.machine runner.old)) (R.machine runner.old)) }
+    ensures stays { R.machine runner.new ≡ R.machine runner.old }
 {
     let mut first = runner.state().first;
-    runner.found().fill(&mut first);
+    let found = runner.found();
+    found.fill(&mut first);
     Held {
         first: first.as_slice().len() as u64,
         second: runner.second_count(),
@@ -67,9 +69,10 @@ fn held_with<R: TryRunner>(runner: &R) -> Held
 }
 
 // How many are cached before a fence drops some.
-fn held_before<R: TryRunner>(runner: &R, act: &Act) -> Held
-    requires act { (act.now ≡ Other) ⊎ (act.now ≡ act_in (step_outcome (R.machine runner.now))) }
-    ensures { IsHeldBeforeFence act.now (R.machine runner.now) result }
+fn held_before<R: TryRunner>(runner: &mut R, act: &Act) -> Held
+    requires act { (act.now ≡ Other) ⊎ (act.now ≡ act_in (step_outcome (R.machine runner.old))) }
+    ensures held { IsHeldBeforeFence act.now (R.machine runner.old) result }
+    ensures stays { R.machine runner.new ≡ R.machine runner.old }
 {
     match act {
         Act::Fences(..) => held_with(runner),
@@ -127,17 +130,19 @@ fn data_of<R: TryRunner>(runner: &mut R, steps: bool, act: &Act) -> Data
 }
 
 // The word, where it is of use.
-fn word_of<R: TryRunner>(runner: &R, kinds: &Kinds) -> Option<u32>
-    ensures word { If (needs_word kinds.now) (result ≡ step_word (R.machine runner.now)) }
+fn word_of<R: TryRunner>(runner: &mut R, kinds: &Kinds) -> Option<u32>
+    ensures word { If (needs_word kinds.now) (result ≡ step_word (R.machine runner.old)) }
     ensures none { needs_word kinds.now ≡ false → result ≡ None }
+    ensures stays { R.machine runner.new ≡ R.machine runner.old }
 {
     if is_read(kinds) { runner.word() } else { None }
 }
 
 // What it finds, where fills are asked for.
-fn found_by<R: TryRunner>(runner: &R, fills: bool) -> Leaves
-    ensures { If fills (leaves_list result
-        ≡ found_by_try (stages_of (R.machine runner.now)) (R.machine runner.now)) }
+fn found_by<R: TryRunner>(runner: &mut R, fills: bool) -> Leaves
+    ensures found { If fills (leaves_list result
+        ≡ found_by_try (stages_of (R.machine runner.old)) (R.machine runner.old)) }
+    ensures stays { R.machine runner.new ≡ R.machine runner.old }
 {
     if fills {
         runner.found()

@@ -1,22 +1,11 @@
-use Rattle.std.proofs.Common.{◌≡◌, ◌+◌, ◌-◌, ◌≤◌, true}
-use Rattle.caching_steps.specs.Remembering.{Remembers}
-use Rattle.fill_laws.specs.Keeping.{IsOrderly}
-use Rattle.machine_defs.specs.Machine.{Machine}
-use Rattle.machine_defs.specs.Runs.{run}
-use Rattle.run_log.specs.Log.{AreCountsIf, lines_from}
-use Rattle.log_writer.proofs.Idle.{lines_left}
-use Rattle.log_writer.proofs.Putting.{PutsRest}
+use Rattle.std.proofs.Common.{◌+◌, ◌-◌}
+use Rattle.log_writer.proofs.LoggedSteps.{IsLoggedTo}
 use Rattle.log_writer.proofs.logs.log_steps.Given as goal
 
-abbrev pub invariant-loop-number : goal.invariant-loop-number
-invariant-loop-number g l = record {
-  machine : (origin : Machine) → g.R.TryRunner.machine l.fn.runner ≡ run origin l.from → g.R.TryRunner.machine l.runner ≡ run origin l.number;
-  early : (g.R.TryRunner.machine l.runner).platform.steps + l.from ≤ (g.R.TryRunner.machine l.fn.runner).platform.steps + l.number;
-  counted : (origin : Machine) → g.R.TryRunner.machine l.fn.runner ≡ run origin l.from → AreCountsIf l.kinds.counts origin l.from (l.number - l.from) l.counts;
-  remembers : l.kinds.stale ≡ true → (origin : Machine) → g.R.TryRunner.machine l.fn.runner ≡ run origin l.from → IsOrderly origin
-      → Remembers origin l.from l.number l.stale.steps;
-  left : (origin : Machine) → g.R.TryRunner.machine l.fn.runner ≡ run origin l.from → (l.kinds.stale ≡ true → IsOrderly origin)
-      → PutsRest g.O.Sink.stands_for l.fn.out l.out (lines_left l.kinds origin l.from l.number (l.from + l.steps - l.number))
-      (lines_from l.kinds origin l.from l.steps);
-  count : g.O.Sink.faults l.fn.out ≤ g.O.Sink.faults l.out;
-}
+abbrev pub decreases-loop-next : goal.decreases-loop-next
+decreases-loop-next g l = l.from + l.steps - l.next
+
+abbrev pub invariant-loop-next : goal.invariant-loop-next
+invariant-loop-next g l =
+    IsLoggedTo g.O.Sink l.kinds l.from l.steps (g.R.TryRunner.machine l.fn.runner) l.fn.out l.next
+    (g.R.TryRunner.machine l.runner) l.counts l.stale.steps l.out

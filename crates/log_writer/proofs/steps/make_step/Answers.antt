@@ -1,4 +1,4 @@
-use Rattle.std.proofs.Common.{arith, rules, ◌≡◌, ◌≤◌, ◌∙◌, ap, refl, sym, subst, List, [], ◌∷◌, ◌++◌, false}
+use Rattle.std.proofs.Common.{arith, rules, ◌≡◌, ◌∙◌, ap, refl, sym, subst, List, [], ◌∷◌, ◌++◌, false}
 use Rattle.std.specs.Prelude.{is_ok}
 use Rattle.caching_steps.specs.Noting.{second_name}
 use Rattle.caching_steps.specs.Remembering.{notes_of}

@@ -11,5 +11,5 @@ returns-in-Some-clause-access c =
 
 pub returns-in-None-clause-access : goal.returns-in-None-clause-access
 returns-in-None-clause-access c =
-    c.made_of.ensures ∙ ap (option_map access_seen) (c.access_next.ensures ∙ ap access_next c.self.view_is)
+    c.made_of.ensures ∙ ap (option_map access_seen) (c.access_next.ensures.access ∙ ap access_next c.self.view_is)
     ∙ own_made c.args.self.now c.args.act.now c.requires (sym c.hlv_wanted.ensures ∙ c.in-None.is)
