@@ -247,3 +247,9 @@ pub record SaysOfMoves (told : Option Files) (command : Option Command) (ended :
   pub check : IsCheck command → new ≡ old
   pub grow : old ≤ new
   pub most : new ≤ old + 2 ^ 20
+
+-- what an end says of both counts
+pub record SaysOfCounts (told : Option Files) (command : Option Command) (ended : Ended) (old new : Counts)
+    (moves moves' : ℕ) : Type 0 where
+  pub account : SaysOfAccount told command ended old new
+  pub moved : SaysOfMoves told command ended moves moves'

@@ -10,11 +10,15 @@ use Rattle.run_config.specs.declared.guests.GuestSettings.{GuestSettings}
 use Rattle.run_config.specs.Configurations.{Configuration, IsWithinLimits}
 use Rattle.nesthv_top.specs.declared.ends.Job.{Job}
 use Rattle.nesthv_top.specs.declared.ends.Loaded.{Loaded}
+use Rattle.nesthv_top.specs.declared.ends.RunPlan.{RunPlan}
 use Rattle.nesthv_top.specs.Plans.{Plan, name_of_source}
 use Rattle.nesthv_top.specs.Reads.{absent_guest_fault}
 
 abbrev pub plan_with : List Source → List (ℕ × ℕ) → ℕ → Plan
 plan_with sources turns spare = record { sources = sources; turns = turns; spare = spare }
+
+abbrev pub as_plan : RunPlan → Plan
+as_plan plan = plan_with plan.sources.items plan.turns.now plan.spare
 
 abbrev pub plan_seen : Job → Plan
 plan_seen job = plan_with job.sources.items job.config.turns job.config.spare

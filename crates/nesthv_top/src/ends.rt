@@ -45,6 +45,14 @@ pub struct FilesRead<'a> {
     pub stored: Vec<u8>,
 }
 
+/// Guests that are to be run: where they come from, their turns, and how many spare blocks there are.
+#[derive(Drop)]
+pub struct RunPlan<'a> {
+    pub sources: Vec<Source>,
+    pub turns: &'a [(u32, u64)],
+    pub spare: u64,
+}
+
 /// Where the guests come from that are to be run, with the configuration that says their names and their
 /// turns, and the frames that they and the spare blocks need.
 #[derive(Drop)]

@@ -3,13 +3,13 @@
 ghost use Rattle.std.specs.Prelude.{Some};
 ghost use Rattle.command_line.specs.Commands.{OnFiles, command_of};
 ghost use Rattle.command_line.specs.Seen.{file_command_seen};
-ghost use Rattle.nesthv_top.specs.Endings.{SaysOfAccount, SaysOfCause, SaysOfCauseFor, SaysOfMoves, SaysOfOut, SaysOfReads, SaysOfSaved};
+ghost use Rattle.nesthv_top.specs.Endings.{SaysOfCause, SaysOfCauseFor, SaysOfCounts, SaysOfOut, SaysOfReads, SaysOfSaved};
 ghost use Rattle.nesthv_top.specs.Performed.{HasAnswered, HasRunMachines};
 ghost use Rattle.nesthv_top.specs.Runnings.{AreCountsFor, HasRoomForRun};
-ghost use Rattle.nesthv_top.specs.Seen.{plan_seen, HasGuest, IsJob};
+ghost use Rattle.nesthv_top.specs.Seen.{loaded_plan, HasGuest, IsJob};
 
 use crate::checking::check;
-use crate::ends::{Ended, Job, Loaded, RunEnd};
+use crate::ends::{Ended, Loaded, RunEnd};
 use crate::loading::load;
 use crate::reads::Reads;
 use crate::replaying::replay;
@@ -36,8 +36,8 @@ pub fn obey<S: Store, O: Sink>(
     ensures cause { SaysOfCause S.Store O.Sink words.now result store.old store.new out.old out.new }
     ensures reads { SaysOfReads S.Store (command_of words.now) result store.old store.new }
     ensures out { SaysOfOut O.Sink (S.files store.old) (command_of words.now) result out.old out.new }
-    ensures account { SaysOfAccount (S.files store.old) (command_of words.now) result tally.old tally.new }
-    ensures moves { SaysOfMoves (S.files store.old) (command_of words.now) result moves.old moves.new }
+    ensures counts { SaysOfCounts (S.files store.old) (command_of words.now) result
+        tally.old tally.new moves.old moves.new }
     ensures saved { SaysOfSaved (S.files store.old) (command_of words.now) result }
 {
     match request_of(alloc, words) {
@@ -69,19 +69,17 @@ fn answer<S: Store, O: Sink>(
         store.old store.new }
     ensures out { SaysOfOut O.Sink (S.files store.old) (Some (OnFiles (file_command_seen request.entry)))
         result out.old out.new }
-    ensures account { SaysOfAccount (S.files store.old) (Some (OnFiles (file_command_seen request.entry)))
-        result tally.old tally.new }
-    ensures moves { SaysOfMoves (S.files store.old) (Some (OnFiles (file_command_seen request.entry)))
-        result moves.old moves.new }
+    ensures counts { SaysOfCounts (S.files store.old) (Some (OnFiles (file_command_seen request.entry)))
+        result tally.old tally.new moves.old moves.new }
     ensures saved { SaysOfSaved (S.files store.old) (Some (OnFiles (file_command_seen request.entry)))
         result }
 {
     let mut reads = Reads::new();
-    let Loaded { job, stored } = match load(alloc, request, &mut reads, store) {
+    let loaded = match load(alloc, request, &mut reads, store) {
         Ok(loaded) => loaded,
         Err(end) => return Ended::from(end),
     };
-    match perform(alloc, request, job, stored.as_slice(), out, tally, moves) {
+    match perform(alloc, request, loaded, out, tally, moves) {
         Ok(Verdict::Same) => Ended::Done,
         Ok(Verdict::Differs(_)) => Ended::Differs,
         Err(RunEnd::WriteFault) => Ended::WriteFault,
@@ -89,33 +87,34 @@ fn answer<S: Store, O: Sink>(
     }
 }
 
-// Does with a job what is asked for, and answers what a replay finds; the others find nothing that differs.
+// Does with what was read what is asked for, and answers what a replay finds; the others find nothing that differs.
 #[tactic(auto, using(crate::proofs::SavedMachines::guest_there, crate::proofs::SavedMachines::saved_there))]
 fn perform<O: Sink>(
     alloc: Global,
     request: FileRequest<'_>,
-    job: Job,
-    stored: &[u8],
+    loaded: Loaded,
     out: &mut O,
     tally: &mut Tally,
     moves: &mut Moves,
 ) -> Result<Verdict, RunEnd>
-    requires job { IsJob job }
-    requires guest { HasGuest (file_command_seen request) job.config }
+    requires job { IsJob loaded.job }
+    requires guest { HasGuest (file_command_seen request) loaded.job.config }
     requires room { HasRoomForRun tally.old moves.old }
 
-    ensures answer { HasAnswered O.Sink (file_command_seen request.entry) stored.now (plan_seen job) result
-        out.old out.new }
-    ensures counts { AreCountsFor (file_command_seen request.entry) (plan_seen job) result
+    ensures answer { HasAnswered O.Sink (file_command_seen request.entry) loaded.stored.items
+        (loaded_plan loaded) result out.old out.new }
+    ensures counts { AreCountsFor (file_command_seen request.entry) (loaded_plan loaded) result
         tally.old tally.new moves.old moves.new }
-    ensures machines { HasRunMachines (OnFiles (file_command_seen request.entry)) (plan_seen job) result }
+    ensures machines { HasRunMachines (OnFiles (file_command_seen request.entry)) (loaded_plan loaded)
+        result }
 {
+    let Loaded { job, stored } = loaded;
     match request {
         FileRequest::Run { .. } => {
             run(alloc, job, out, tally, moves)?;
             Ok(Verdict::Same)
         }
-        FileRequest::Replay { .. } => replay(alloc, job, stored, out, tally, moves),
+        FileRequest::Replay { .. } => replay(alloc, job, stored.as_slice(), out, tally, moves),
         FileRequest::Check { .. } => {
             check(&job, out)?;
             Ok(Verdict::Same)

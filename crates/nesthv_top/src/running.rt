@@ -13,16 +13,16 @@ ghost use Rattle.nesthv_top.specs.Moving.{kept_turn, own_turns};
 ghost use Rattle.nesthv_top.specs.Performed.{HasSaved};
 ghost use Rattle.nesthv_top.specs.Runnings.{sections_of, AreCountsOf, CanMove, CountsTurnsOf, HasRoomForCommand, HasRoomForRun, HaveBlocks, IsActive, IsReady};
 ghost use Rattle.nesthv_top.specs.HostedRuns.{CanRun, HasCounted, HasMadeTurns, HasRunPlan};
-ghost use Rattle.nesthv_top.specs.Seen.{names_in, plan_seen, plan_with, IsJob};
+ghost use Rattle.nesthv_top.specs.Seen.{as_plan, names_in, plan_seen, IsJob};
 ghost use Rattle.nesthv_top.specs.Written.{Writes};
 ghost use Rattle.outside.specs.Texts.{PutsText};
 
-use crate::ends::{Job, RunEnd};
+use crate::ends::{Job, RunEnd, RunPlan};
 use cache_laws::{runs_are_architectural, runs_are_fresh};
 use fill_laws::{fills_suffice, machines_stay_orderly};
 use guest_save::saved_machines_go_on;
 use guest_settings::MOST_GUESTS;
-use guest_turns::{Host, MoveFault, Moves, Source};
+use guest_turns::{Host, MoveFault, Moves};
 use no_memory::NoMemory;
 use outside::{Sink, SinkFault};
 use report::{GuestLine, section};
@@ -50,15 +50,12 @@ pub fn run<O: Sink>(
         sources,
         ..
     } = job;
-    let host = hosted(
-        alloc,
+    let plan = RunPlan {
         sources,
-        config.turns().as_slice(),
-        config.spare(),
-        None,
-        tally,
-        moves,
-    )?;
+        turns: config.turns().as_slice(),
+        spare: config.spare(),
+    };
+    let host = hosted(alloc, plan, None, tally, moves)?;
     Ok(put_sections(&host, config.guests(), out)?)
 }
 
@@ -84,38 +81,37 @@ pub fn save<O: Sink>(
         sources,
         ..
     } = job;
-    let host = hosted(
-        alloc,
+    let plan = RunPlan {
         sources,
-        config.turns().as_slice(),
-        config.spare(),
-        Some(guest),
-        tally,
-        moves,
-    )?;
+        turns: config.turns().as_slice(),
+        spare: config.spare(),
+    };
+    let host = hosted(alloc, plan, Some(guest), tally, moves)?;
     host.can_be_saved(guest);
     Ok(host.save(guest, out)?)
 }
 
-/// Boots guests beside that many spare blocks, and makes their turns. Where there are spare blocks, each turn
-/// moves a block of its guest, and each guest but the one that is kept retires after the last of its turns.
+/// Boots guests beside spare blocks, and makes their turns. Where there are spare blocks, each turn moves a
+/// block of its guest, and each guest but the one that is kept retires after the last of its turns.
 pub fn hosted(
     alloc: Global,
-    sources: Vec<Source>,
-    turns: &[(u32, u64)],
-    spare: u64,
+    plan: RunPlan<'_>,
     kept: Option<u32>,
     tally: &mut Tally,
     moves: &mut Moves,
 ) -> Result<Host, NoMemory>
-    requires plan { CanRun (plan_with sources.items turns.now spare) kept }
+    requires plan { CanRun (as_plan plan) kept }
     requires room { HasRoomForRun tally.old moves.old }
 
-    ensures ran { IfOk result (HasRunPlan (plan_with sources.items turns.now spare) kept) }
-    ensures counted { HasCounted (plan_with sources.items turns.now spare) result
-        tally.old tally.new moves.old moves.new }
-    ensures written { AllRunAsWritten (plan_with sources.items turns.now spare) }
+    ensures ran { IfOk result (HasRunPlan (as_plan plan.entry) kept) }
+    ensures counted { HasCounted (as_plan plan.entry) result tally.old tally.new moves.old moves.new }
+    ensures written { AllRunAsWritten (as_plan plan.entry) }
 {
+    let RunPlan {
+        sources,
+        turns,
+        spare,
+    } = plan;
     fills_suffice();
     runs_are_architectural();
     runs_are_fresh();

@@ -13,7 +13,7 @@ ghost use Rattle.nesthv_top.specs.Works.{sum_line, work_heading, work_text};
 ghost use Rattle.nesthv_top.specs.Written.{Writes};
 ghost use Rattle.outside.specs.Texts.{PutsText};
 
-use crate::ends::RunEnd;
+use crate::ends::{RunEnd, RunPlan};
 use crate::running::hosted;
 use arrayvec::ArrayVec;
 use cache_laws::{runs_are_architectural, runs_are_fresh};
@@ -74,15 +74,12 @@ fn generated(alloc: Global, seed: u64, size: u64, tally: &mut Tally) -> Result<H
     let guests = guests(alloc, seed, size)?;
     let turns = rounds(alloc, size)?;
     let sources = fresh_sources(alloc, guests)?;
-    let host = hosted(
-        alloc,
+    let plan = RunPlan {
         sources,
-        turns.as_slice(),
-        0,
-        None,
-        tally,
-        &mut Moves::new(),
-    )?;
+        turns: turns.as_slice(),
+        spare: 0,
+    };
+    let host = hosted(alloc, plan, None, tally, &mut Moves::new())?;
     Ok(host)
 }
 

@@ -2,7 +2,7 @@ use Rattle.std.proofs.Common.{◌≡◌, Some, subst, sym}
 use Rattle.command_line.specs.Commands.{OnFiles, Work, command_of}
 use Rattle.command_line.specs.Seen.{IsWork, file_command_seen}
 use Rattle.nesthv_top.specs.declared.ends.Ended.TheVariants.{Done, NoMemory, WriteFault}
-use Rattle.nesthv_top.specs.Endings.{SaysOfAccount, SaysOfReads}
+use Rattle.nesthv_top.specs.Endings.{SaysOfCounts, SaysOfReads}
 use Rattle.nesthv_top.specs.Plans.{work_plan}
 use Rattle.nesthv_top.specs.Runnings.{CountsTurns}
 use Rattle.nesthv_top.proofs.Accounting.{counted_work, in_part}
@@ -19,25 +19,25 @@ returns-in-Ok-Some-OnFiles-clause-cause g c =
       write = c.answer.ensures.cause.write;
     }
 
-pub returns-in-Ok-clause-account : goal.returns-in-Ok-clause-account
-returns-in-Ok-clause-account g c =
+pub returns-in-Ok-clause-counts : goal.returns-in-Ok-clause-counts
+returns-in-Ok-clause-counts g c =
     let seed = c.in-Ok-Some-Work.seed in let size = c.in-Ok-Some-Work.size in
     let is : Some (Work seed size) ≡ command_of c.args.words.now
     = rw c.in-Ok-Some-Work.field-0-0-is at (rw c.in-Ok-Some-Work.field-0-is at c.in-Ok-Some-Work.ensures.request) in
     let within : IsWork seed size = rw c.in-Ok-Some-Work.field-0-0-is at (rw c.in-Ok-Some-Work.field-0-is at c.in-Ok-Some-Work.ensures.within) in
-    subst (λ command. SaysOfAccount (g.S.Store.files c.args.store.now) command Done c.args.tally.now c.work.new.tally) is
-    (counted_work (g.S.Store.files c.args.store.now) seed size c.args.tally.now c.work.new.tally within.size_most c.in-Ok.ensures.account)
+    subst (λ command. SaysOfCounts (g.S.Store.files c.args.store.now) command Done c.args.tally.now c.work.new.tally c.args.moves.now c.args.moves.now) is
+    (counted_work (g.S.Store.files c.args.store.now) seed size c.args.tally.now c.work.new.tally c.args.moves.now within.size_most c.in-Ok.ensures.account)
 
-pub returns-in-Err-WriteFault-clause-account : goal.returns-in-Err-WriteFault-clause-account
-returns-in-Err-WriteFault-clause-account g c =
+pub returns-in-Err-WriteFault-clause-counts : goal.returns-in-Err-WriteFault-clause-counts
+returns-in-Err-WriteFault-clause-counts g c =
     let seed = c.in-Ok-Some-Work.seed in let size = c.in-Ok-Some-Work.size in
     let is : Some (Work seed size) ≡ command_of c.args.words.now
     = rw c.in-Ok-Some-Work.field-0-0-is at (rw c.in-Ok-Some-Work.field-0-is at c.in-Ok-Some-Work.ensures.request) in
     let within : IsWork seed size = rw c.in-Ok-Some-Work.field-0-0-is at (rw c.in-Ok-Some-Work.field-0-is at c.in-Ok-Some-Work.ensures.within) in
     let grew : CountsTurns (work_plan seed size) c.args.tally.now c.work.new.tally = rw c.in-Err-WriteFault.field-0-is at c.in-Err-WriteFault.ensures.account in
-    subst (λ command. SaysOfAccount (g.S.Store.files c.args.store.now) command WriteFault c.args.tally.now c.work.new.tally) is
-    (in_part (g.S.Store.files c.args.store.now) (Work seed size) c.args.tally.now c.work.new.tally
-    (counted_work (g.S.Store.files c.args.store.now) seed size c.args.tally.now c.work.new.tally within.size_most grew))
+    subst (λ command. SaysOfCounts (g.S.Store.files c.args.store.now) command WriteFault c.args.tally.now c.work.new.tally c.args.moves.now c.args.moves.now) is
+    (in_part (g.S.Store.files c.args.store.now) (Work seed size) c.args.tally.now c.work.new.tally c.args.moves.now c.args.moves.now
+    (counted_work (g.S.Store.files c.args.store.now) seed size c.args.tally.now c.work.new.tally c.args.moves.now within.size_most grew))
 
 pub returns-in-Err-NoMemory-clause-cause : goal.returns-in-Err-NoMemory-clause-cause
 returns-in-Err-NoMemory-clause-cause g c =

@@ -39,5 +39,5 @@ pub returns-clause-ended : goal.returns-clause-ended
 returns-clause-ended g c = (
   c.obey-ended.result,
   c.status_of.ensures,
-  (c.obey-ended.ensures.cause, c.obey-ended.ensures.reads, c.obey-ended.ensures.out, c.tell.ensures, c.obey-ended.ensures.account, c.obey-ended.ensures.moves, c.obey-ended.ensures.saved),
+  (c.obey-ended.ensures.cause, c.obey-ended.ensures.reads, c.obey-ended.ensures.out, c.tell.ensures, c.obey-ended.ensures.counts.account, c.obey-ended.ensures.counts.moved, c.obey-ended.ensures.saved),
 )
