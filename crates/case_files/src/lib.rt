@@ -1,12 +1,15 @@
 //! What the files of cases say: names, images, configurations, and what fails of files and streams.
 #![tactic(auto)]
 
+mod cases;
+mod checkers;
 mod configuration;
 mod ends;
 mod faults;
 mod files;
 mod guests;
 mod outcome;
+mod rows;
 mod script;
 mod sink;
 mod states;
@@ -16,12 +19,15 @@ mod terms;
 mod text;
 mod values;
 
+pub use cases::{CUTS, CaseLines, check_case};
+pub use checkers::{Checker, tell_files};
 pub use configuration::{Configuration, Turns};
 pub use ends::End;
 pub use faults::{Fault, told_fault};
 pub use files::Files;
 pub use guests::Guests;
 pub use outcome::Outcome;
+pub use rows::{RowLines, check_rows};
 pub use script::{Script, StoreScript, StreamScript};
 pub use sink::ScriptedSink;
 pub use states::{are_same, tell_memory, tell_places, tell_values};

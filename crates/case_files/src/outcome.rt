@@ -6,20 +6,18 @@ use std::alloc::Global;
 // How many kinds of things are counted at most.
 const UNITS: usize = 3;
 
-/// The lines that tell where cases differ, and how many there were, by the names of what is counted.
+/// The lines that tell where cases differ, and how many there were, by what is counted.
 #[derive(Drop)]
 pub struct Outcome {
     pub text: String,
-    units: &'static [&'static str],
     counts: [u64; UNITS],
     different: u64,
 }
 
 impl Outcome {
-    pub fn new(alloc: Global, units: &'static [&'static str]) -> Outcome {
+    pub fn new(alloc: Global) -> Outcome {
         Outcome {
             text: String::new(alloc),
-            units,
             counts: [0; UNITS],
             different: 0,
         }
@@ -40,14 +38,16 @@ impl Outcome {
         }
     }
 
-    /// Appends the line that counts them.
-    pub fn tell_count(&mut self, file: &str) -> Result<(), NoMemory> {
+    /// Appends the line that counts them, where something is counted, by these names.
+    pub fn tell_count(&mut self, file: &str, units: &[&str]) -> Result<(), NoMemory> {
         let Outcome {
-            units,
             counts,
             different,
             ..
         } = *self;
+        if units.is_empty() {
+            return Ok(());
+        }
         write!(self.text, "{file}: ")?;
         for unit in 0..units.len().min(UNITS) {
             let (count, name) = (counts[unit], units[unit]);

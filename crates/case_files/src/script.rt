@@ -3,18 +3,20 @@
 use crate::faults::Fault;
 use crate::terms::number;
 
-/// A put that fails once it has taken that many bytes, and whether the stream takes nothing at all, with a
-/// count of faults that stands at its end. Put 0 is none.
+/// A put that fails once it has taken that many bytes, how many bytes the stream takes before it closes, and
+/// whether it takes nothing at all, with a count of faults that stands at its end. Put 0 is none.
 #[derive(Clone, Copy)]
 pub struct StreamScript {
     pub put: u64,
     pub takes: usize,
+    pub room: usize,
     pub is_full: bool,
 }
 
 const SOUND: StreamScript = StreamScript {
     put: 0,
     takes: 0,
+    room: usize::MAX,
     is_full: false,
 };
 

@@ -33,12 +33,13 @@ impl ScriptedSink {
     fn taken(&self, length: usize) -> usize
         ensures { result ≤ length }
     {
+        let room = self.script.room.saturating_sub(self.bytes.len());
         if self.script.is_full {
             0
         } else if self.script.put == self.puts {
-            self.script.takes.min(length)
+            self.script.takes.min(room).min(length)
         } else {
-            length
+            room.min(length)
         }
     }
 
@@ -58,7 +59,7 @@ impl Sink for ScriptedSink {
         self.puts = self.puts.saturating_add(1);
         let taken = self.taken(piece.len());
         let kept = self.bytes.extend_from_slice(&piece[..taken]);
-        if kept.is_ok() && !self.fails() {
+        if kept.is_ok() && taken == piece.len() && !self.fails() {
             return Ok(());
         }
         self.faults = self.faults.saturating_add(1);

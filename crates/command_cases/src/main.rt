@@ -11,14 +11,10 @@ mod sums;
 mod table;
 mod told;
 
-use std::{fs, io};
+use case_files::tell_files;
+use std::io;
+use suite::Answers;
 
 fn main(rt: HostRuntime) -> io::Result<()> {
-    for name in rt.lines(rt.alloc()) {
-        let name = name?;
-        let cases = fs::read_to_string(&rt, name.as_str())?;
-        let answers = suite::answers(rt.alloc(), cases.as_str())?;
-        print!(rt; "{answers}")?;
-    }
-    Ok(())
+    tell_files(&rt, &Answers)
 }

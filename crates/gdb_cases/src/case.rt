@@ -3,14 +3,11 @@
 use crate::cuts::Cut;
 use crate::debugged::{Debugged, Left};
 use crate::rows::Rows;
-use case_files::{End, Fault, Guests, Names, Outcome, push_shown, push_unescaped, quoted};
+use case_files::{
+    CUTS, CaseLines, End, Fault, Guests, Outcome, push_shown, push_unescaped, quoted,
+};
 use no_memory::NoMemory;
 use std::alloc::Global;
-
-// What is counted beside the cases, by its index.
-const ROWS: usize = 1;
-
-const CUTS: usize = 2;
 
 /// What the lines of a case have said so far.
 #[derive(Drop)]
@@ -40,43 +37,8 @@ impl<'a> Case<'a> {
         })
     }
 
-    /// Takes a line.
-    pub fn take(&mut self, names: &Names<'_>, line: &'a str) -> Result<(), Fault> {
-        match self.guests.take(line)? {
-            None => Ok(()),
-            Some((word, rest)) => {
-                if self.rows.obey(line)? || self.obeys(names, word, rest)? {
-                    Ok(())
-                } else {
-                    Err(Fault::Line)
-                }
-            }
-        }
-    }
-
-    fn obeys(&mut self, names: &Names<'_>, word: &str, rest: &'a str) -> Result<bool, Fault> {
-        match word {
-            "words" => self.words = rest,
-            "description" => self.describe(rest)?,
-            "ends" => self.end = End::of(rest).ok_or(Fault::Line)?,
-            "cut" => self.is_cut = true,
-            _ => return self.guests.obey(names, word, rest),
-        }
-        Ok(true)
-    }
-
     fn describe(&mut self, text: &str) -> Result<(), Fault> {
         push_unescaped(&mut self.description, quoted(text).ok_or(Fault::Line)?)
-    }
-
-    /// Talks, whole and cut, and tells where what is answered differs.
-    pub fn end(&mut self, outcome: &mut Outcome) -> Result<(), Fault> {
-        self.guests.assemble()?;
-        self.guests.configure()?;
-        let differs = self.tell_whole(&mut outcome.text)? || self.tell_cuts(outcome)?;
-        outcome.count(differs);
-        outcome.add(ROWS, self.rows.rows.len());
-        Ok(())
     }
 
     fn debugged(&self) -> Debugged<'_, 'a> {
@@ -86,22 +48,6 @@ impl<'a> Case<'a> {
             files: &self.guests.files,
             script: self.guests.script,
         }
-    }
-
-    // Tells where the talk differs, if it does.
-    fn tell_whole(&self, text: &mut String) -> Result<bool, NoMemory> {
-        let left = self.debugged().talk(self.alloc, self.rows.course())?;
-        if self.tell_row(&left, text)? {
-            return Ok(true);
-        }
-        if self.end.is(left.status(), left.err()) && self.is_left(&left) {
-            return Ok(false);
-        }
-        let (status, came) = (left.status(), left.connection.came());
-        write!(text, "{}: status {status} behind {came} bytes: ", self.name)?;
-        push_shown(text, left.err())?;
-        text.push('\n')?;
-        Ok(true)
     }
 
     // Whether all was read before gdb leaves, and no more.
@@ -129,17 +75,6 @@ impl<'a> Case<'a> {
             wanted = row.answered;
         }
         Ok(false)
-    }
-
-    // Tells which cut makes a difference, if one does. A talk is cut where it has status 0.
-    fn tell_cuts(&self, outcome: &mut Outcome) -> Result<bool, NoMemory> {
-        if self.end.status != 0 {
-            return Ok(false);
-        }
-        if self.tell_cut(Cut::Bytes, outcome)? {
-            return Ok(true);
-        }
-        Ok(self.is_cut && (self.tell_faults(outcome)? || self.tell_ends(outcome)?))
     }
 
     // Ends behind each byte.
@@ -177,6 +112,53 @@ impl<'a> Case<'a> {
         cut.put(&mut outcome.text)?;
         outcome.text.push('\n')?;
         Ok(true)
+    }
+}
+
+impl<'a> CaseLines<'a> for Case<'a> {
+    fn guests(&mut self) -> &mut Guests<'a> {
+        &mut self.guests
+    }
+
+    fn obey(&mut self, line: &'a str, word: &str, rest: &'a str) -> Result<bool, Fault> {
+        match word {
+            "words" => self.words = rest,
+            "description" => self.describe(rest)?,
+            "ends" => self.end = End::of(rest).ok_or(Fault::Line)?,
+            "cut" => self.is_cut = true,
+            _ => return self.rows.obey(line),
+        }
+        Ok(true)
+    }
+
+    fn lines(&self) -> usize {
+        self.rows.rows.len()
+    }
+
+    fn tell_whole(&self, text: &mut String) -> Result<bool, NoMemory> {
+        let left = self.debugged().talk(self.alloc, self.rows.course())?;
+        if self.tell_row(&left, text)? {
+            return Ok(true);
+        }
+        if self.end.is(left.status(), left.err()) && self.is_left(&left) {
+            return Ok(false);
+        }
+        let (status, came) = (left.status(), left.connection.came());
+        write!(text, "{}: status {status} behind {came} bytes: ", self.name)?;
+        push_shown(text, left.err())?;
+        text.push('\n')?;
+        Ok(true)
+    }
+
+    // A talk is cut where it has status 0.
+    fn tell_cuts(&self, outcome: &mut Outcome) -> Result<bool, NoMemory> {
+        if self.end.status != 0 {
+            return Ok(false);
+        }
+        if self.tell_cut(Cut::Bytes, outcome)? {
+            return Ok(true);
+        }
+        Ok(self.is_cut && (self.tell_faults(outcome)? || self.tell_ends(outcome)?))
     }
 }
 

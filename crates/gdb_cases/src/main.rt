@@ -7,16 +7,40 @@ mod connection;
 mod cuts;
 mod debugged;
 mod rows;
-mod suite;
 
-use std::{fs, io};
+use case::Case;
+use case_files::{Block, Checker, Fault, Names, Outcome, check_case, tell_files};
+use std::io;
+
+/// What checks talks with the debugger.
+struct Talks;
+
+static KINDS: [&str; 1] = ["case"];
+
+static UNITS: [&str; 3] = ["cases", "rows", "cuts"];
+
+impl Checker for Talks {
+    fn kinds(&self) -> &'static [&'static str] {
+        &KINDS
+    }
+
+    fn units(&self) -> &'static [&'static str] {
+        &UNITS
+    }
+
+    fn check(
+        &self,
+        _file: &str,
+        names: &Names<'_>,
+        block: &Block<'_>,
+        outcome: &mut Outcome,
+    ) -> Result<(), Fault> {
+        let case = Case::new(*outcome.text.allocator(), block.name)?;
+        check_case(case, names, block, outcome)?;
+        Ok(())
+    }
+}
 
 fn main(rt: HostRuntime) -> io::Result<()> {
-    for name in rt.lines(rt.alloc()) {
-        let name = name?;
-        let cases = fs::read_to_string(&rt, name.as_str())?;
-        let told = suite::told(rt.alloc(), name.as_str(), cases.as_str())?;
-        print!(rt; "{told}")?;
-    }
-    Ok(())
+    tell_files(&rt, &Talks)
 }

@@ -9,23 +9,29 @@ mod emulations;
 mod endings;
 mod row;
 mod runs;
-mod suite;
 mod translations;
 mod values;
 mod wanted;
 
-use std::{fs, io};
+use case_files::{Block, Checker, Fault, Names, Outcome, check_rows, tell_files};
+use row::Row;
+use std::io;
+
+/// What checks rows of the hart.
+struct HartRows;
+
+impl Checker for HartRows {
+    fn check(
+        &self,
+        file: &str,
+        names: &Names<'_>,
+        block: &Block<'_>,
+        outcome: &mut Outcome,
+    ) -> Result<(), Fault> {
+        check_rows::<Row<'_>>(file, names, block, outcome)
+    }
+}
 
 fn main(rt: HostRuntime) -> io::Result<()> {
-    for name in rt.lines(rt.alloc()) {
-        let name = name?;
-        match fs::read_to_string(&rt, name.as_str()) {
-            Ok(rows) => {
-                let told = suite::told(rt.alloc(), name.as_str(), rows.as_str())?;
-                print!(rt; "{told}")?;
-            }
-            Err(_) => println!(rt; "{name}: it cannot be read")?,
-        }
-    }
-    Ok(())
+    tell_files(&rt, &HartRows)
 }

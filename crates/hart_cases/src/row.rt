@@ -2,13 +2,15 @@
 
 use crate::beginning::Beginning;
 use crate::devices::Device;
+use crate::differences::tell_row;
 use crate::emulations::{Emulation, Maker, emulation_in};
 use crate::endings::stop_in;
+use crate::runs::MOST;
 use crate::translations::{Translation, translation_in};
 use crate::values::reservation_in;
 use crate::wanted::wanted_in;
 use case_files::{
-    Doubleword, Fault, Names, Value, place_in, push_doublewords, push_values, value_in,
+    Doubleword, Fault, Names, RowLines, Value, place_in, push_doublewords, push_values, value_in,
 };
 use op_defs::DataAccess;
 use rv64_hart::Stop;
@@ -54,13 +56,13 @@ pub struct Row<'a> {
     pub wanted: Option<Option<DataAccess>>,
 }
 
-impl<'a> Row<'a> {
-    pub fn new(alloc: Global, limit: u64) -> Row<'a> {
+impl<'a> RowLines<'a> for Row<'a> {
+    fn new(alloc: Global) -> Row<'a> {
         Row {
             alloc,
             beginning: Beginning::new(alloc),
             device: Device::new(alloc),
-            limit,
+            limit: MOST,
             is_watched: false,
             is_stepwise: false,
             runs: Vec::new(alloc),
@@ -76,8 +78,7 @@ impl<'a> Row<'a> {
         }
     }
 
-    /// Takes a line.
-    pub fn take(&mut self, names: &Names<'_>, line: &'a str) -> Result<(), Fault> {
+    fn take(&mut self, names: &Names<'_>, line: &'a str) -> Result<(), Fault> {
         if line.starts_with(' ') {
             return self.beginning.push_instruction(line.trim());
         }
@@ -92,14 +93,19 @@ impl<'a> Row<'a> {
         Err(Fault::Line)
     }
 
-    /// Whether it says what a run comes to.
-    pub fn is_whole(&self) -> bool {
+    fn is_whole(&self) -> bool {
         !self.runs.is_empty()
             || !self.emulations.is_empty()
             || !self.translations.is_empty()
             || self.wanted.is_some()
     }
 
+    fn tell(&mut self, text: &mut String) -> Result<bool, Fault> {
+        tell_row(self, text)
+    }
+}
+
+impl<'a> Row<'a> {
     // Obeys a line, if it is about the runs.
     fn obeys(&mut self, names: &Names<'_>, word: &str, rest: &'a str) -> Result<bool, Fault> {
         match word {

@@ -15,22 +15,28 @@ mod runs;
 mod saves;
 mod single_tries;
 mod storable;
-mod suite;
 mod tries;
 mod turns;
 
-use std::{fs, io};
+use case_files::{Block, Checker, Fault, Names, Outcome, check_rows, tell_files};
+use row::Row;
+use std::io;
+
+/// What checks rows of guests and hosts.
+struct HostRows;
+
+impl Checker for HostRows {
+    fn check(
+        &self,
+        file: &str,
+        names: &Names<'_>,
+        block: &Block<'_>,
+        outcome: &mut Outcome,
+    ) -> Result<(), Fault> {
+        check_rows::<Row<'_>>(file, names, block, outcome)
+    }
+}
 
 fn main(rt: HostRuntime) -> io::Result<()> {
-    for name in rt.lines(rt.alloc()) {
-        let name = name?;
-        match fs::read_to_string(&rt, name.as_str()) {
-            Ok(rows) => {
-                let told = suite::told(rt.alloc(), name.as_str(), rows.as_str())?;
-                print!(rt; "{told}")?;
-            }
-            Err(_) => println!(rt; "{name}: it cannot be read")?,
-        }
-    }
-    Ok(())
+    tell_files(&rt, &HostRows)
 }

@@ -3,11 +3,12 @@
 use crate::after::After;
 use crate::beginning::{Beginning, push_given};
 use crate::calls::call_in;
+use crate::differences::tell_row;
 use crate::hosts::Hosted;
 use crate::images::Images;
 use crate::makers::makers_in;
 use crate::tries::By;
-use case_files::{Fault, Names, Value, push_values};
+use case_files::{Fault, Names, RowLines, Value, push_values};
 use std::alloc::Global;
 use test_programs::places::At;
 use test_programs::words;
@@ -36,8 +37,8 @@ pub struct Row<'a> {
     pub hosted: Hosted<'a>,
 }
 
-impl<'a> Row<'a> {
-    pub fn new(alloc: Global) -> Row<'a> {
+impl<'a> RowLines<'a> for Row<'a> {
+    fn new(alloc: Global) -> Row<'a> {
         Row {
             alloc,
             images: Images::new(alloc),
@@ -48,8 +49,7 @@ impl<'a> Row<'a> {
         }
     }
 
-    /// Takes a line.
-    pub fn take(&mut self, names: &Names<'_>, line: &'a str) -> Result<(), Fault> {
+    fn take(&mut self, names: &Names<'_>, line: &'a str) -> Result<(), Fault> {
         if line.starts_with(' ') {
             return self.images.push_instruction(line.trim());
         }
@@ -66,11 +66,16 @@ impl<'a> Row<'a> {
         Ok(())
     }
 
-    /// Whether it says what a guest or a host does.
-    pub fn is_whole(&self) -> bool {
+    fn is_whole(&self) -> bool {
         !self.runs.is_empty() || self.is_of_host()
     }
 
+    fn tell(&mut self, text: &mut String) -> Result<bool, Fault> {
+        tell_row(self, text)
+    }
+}
+
+impl<'a> Row<'a> {
     /// Whether it is of a host.
     pub fn is_of_host(&self) -> bool {
         !self.hosted.guests.is_empty()

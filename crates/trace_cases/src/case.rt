@@ -2,7 +2,7 @@
 
 use crate::logged::Asked;
 use crate::saves::saved;
-use case_files::{End, Fault, Guests, Names, Outcome, push_shown};
+use case_files::{CUTS, CaseLines, End, Fault, Guests, Outcome, push_shown};
 use no_memory::NoMemory;
 use std::alloc::Global;
 
@@ -22,11 +22,6 @@ pub struct Case<'a> {
     is_cut: bool,
 }
 
-// What is counted beside the cases, by its index.
-const LINES: usize = 1;
-
-const CUTS: usize = 2;
-
 const WRITE_FAULT: End<'static> = End {
     status: 4,
     line: "nesthv: write fault",
@@ -45,33 +40,6 @@ impl<'a> Case<'a> {
             end: End::done(),
             is_cut: false,
         })
-    }
-
-    /// Takes a line.
-    pub fn take(&mut self, names: &Names<'_>, line: &'a str) -> Result<(), Fault> {
-        match self.guests.take(line)? {
-            None => Ok(()),
-            Some((word, rest)) => {
-                if self.obeys(word, rest)? || self.guests.obey(names, word, rest)? {
-                    Ok(())
-                } else {
-                    Err(Fault::Line)
-                }
-            }
-        }
-    }
-
-    fn obeys(&mut self, word: &str, rest: &'a str) -> Result<bool, Fault> {
-        match word {
-            "words" => self.ask(rest, ""),
-            "log" => self.ask("nesthv-trace k 0", rest),
-            "=" => self.want_line(rest)?,
-            "save" if rest.is_empty() => self.save()?,
-            "ends" => self.end = End::of(rest).ok_or(Fault::Line)?,
-            "cut" => self.is_cut = true,
-            _ => return Ok(false),
-        }
-        Ok(true)
     }
 
     fn ask(&mut self, words: &'a str, log: &'a str) {
@@ -94,16 +62,6 @@ impl<'a> Case<'a> {
         Ok(())
     }
 
-    /// Asks for the log, whole and cut, and tells where it differs.
-    pub fn end(&mut self, outcome: &mut Outcome) -> Result<(), Fault> {
-        self.guests.assemble()?;
-        self.guests.configure()?;
-        let differs = self.tell_whole(&mut outcome.text)? || self.tell_cuts(outcome)?;
-        outcome.count(differs);
-        outcome.add(LINES, self.lines);
-        Ok(())
-    }
-
     fn asked(&self) -> Asked<'_, 'a> {
         Asked {
             words: self.words,
@@ -112,8 +70,30 @@ impl<'a> Case<'a> {
             script: self.guests.script,
         }
     }
+}
 
-    // Tells where the log differs, if it does.
+impl<'a> CaseLines<'a> for Case<'a> {
+    fn guests(&mut self) -> &mut Guests<'a> {
+        &mut self.guests
+    }
+
+    fn obey(&mut self, _line: &'a str, word: &str, rest: &'a str) -> Result<bool, Fault> {
+        match word {
+            "words" => self.ask(rest, ""),
+            "log" => self.ask("nesthv-trace k 0", rest),
+            "=" => self.want_line(rest)?,
+            "save" if rest.is_empty() => self.save()?,
+            "ends" => self.end = End::of(rest).ok_or(Fault::Line)?,
+            "cut" => self.is_cut = true,
+            _ => return Ok(false),
+        }
+        Ok(true)
+    }
+
+    fn lines(&self) -> usize {
+        self.lines
+    }
+
     fn tell_whole(&self, text: &mut String) -> Result<bool, NoMemory> {
         let left = self.asked().answer(self.alloc, usize::MAX)?;
         let wanted = self.wanted.as_slice();
@@ -132,8 +112,7 @@ impl<'a> Case<'a> {
         Ok(true)
     }
 
-    // Tells the first byte behind which the stream closes and makes a difference, if there is one. A log is
-    // cut where it has status 0.
+    // A log is cut where it has status 0, behind each of its bytes.
     fn tell_cuts(&self, outcome: &mut Outcome) -> Result<bool, NoMemory> {
         if !self.is_cut || self.end.status != 0 {
             return Ok(false);

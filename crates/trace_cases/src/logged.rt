@@ -1,6 +1,5 @@
 // A log that is asked for, and what it leaves.
 
-use crate::closing_sink::ClosingSink;
 use case_files::{Files, Script, ScriptedSink, ScriptedStore, words_in};
 use no_memory::NoMemory;
 use std::alloc::Global;
@@ -10,7 +9,7 @@ use trace_top::trace;
 #[derive(Drop)]
 pub struct Left {
     status: u64,
-    out: ClosingSink,
+    out: ScriptedSink,
     err: ScriptedSink,
 }
 
@@ -34,7 +33,9 @@ impl Asked<'_, '_> {
             Ok(words)
         };
         let mut store = ScriptedStore::new(alloc, self.files, self.script.store);
-        let mut out = ClosingSink::new(alloc, room);
+        let mut script = self.script.out;
+        script.room = room;
+        let mut out = ScriptedSink::new(alloc, script);
         let mut err = ScriptedSink::new(alloc, self.script.err);
         let status = trace(alloc, words, &mut store, &mut out, &mut err);
         Ok(Left {

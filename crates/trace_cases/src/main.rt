@@ -3,19 +3,42 @@
 #![tactic(auto)]
 
 mod case;
-mod closing_sink;
 mod logged;
 mod saves;
-mod suite;
 
-use std::{fs, io};
+use case::Case;
+use case_files::{Block, Checker, Fault, Names, Outcome, check_case, tell_files};
+use std::io;
+
+/// What checks logs.
+struct Logs;
+
+static KINDS: [&str; 1] = ["case"];
+
+static UNITS: [&str; 3] = ["cases", "lines", "cuts"];
+
+impl Checker for Logs {
+    fn kinds(&self) -> &'static [&'static str] {
+        &KINDS
+    }
+
+    fn units(&self) -> &'static [&'static str] {
+        &UNITS
+    }
+
+    fn check(
+        &self,
+        _file: &str,
+        names: &Names<'_>,
+        block: &Block<'_>,
+        outcome: &mut Outcome,
+    ) -> Result<(), Fault> {
+        let case = Case::new(*outcome.text.allocator(), block.name)?;
+        check_case(case, names, block, outcome)?;
+        Ok(())
+    }
+}
 
 fn main(rt: HostRuntime) -> io::Result<()> {
-    for name in rt.lines(rt.alloc()) {
-        let name = name?;
-        let cases = fs::read_to_string(&rt, name.as_str())?;
-        let told = suite::told(rt.alloc(), name.as_str(), cases.as_str())?;
-        print!(rt; "{told}")?;
-    }
-    Ok(())
+    tell_files(&rt, &Logs)
 }

@@ -10,18 +10,10 @@ mod suite;
 mod walks;
 mod words;
 
-use std::{fs, io};
+use case_files::tell_files;
+use std::io;
+use suite::WalkRows;
 
 fn main(rt: HostRuntime) -> io::Result<()> {
-    for name in rt.lines(rt.alloc()) {
-        let name = name?;
-        match fs::read_to_string(&rt, name.as_str()) {
-            Ok(rows) => {
-                let told = suite::told(rt.alloc(), name.as_str(), rows.as_str())?;
-                print!(rt; "{told}")?;
-            }
-            Err(_) => println!(rt; "{name}: it cannot be read")?,
-        }
-    }
-    Ok(())
+    tell_files(&rt, &WalkRows)
 }

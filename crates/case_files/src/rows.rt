@@ -1,43 +1,35 @@
-// A file of rows.
+// Rows of a file, in groups.
 
 ghost use Rattle.std.specs.Prelude.{◌≤◌, length};
 
-use crate::differences::tell_row;
-use crate::row::Row;
-use case_files::{Block, Fault, Names, Outcome, Suite, told_fault};
+use crate::faults::Fault;
+use crate::outcome::Outcome;
+use crate::suite::Block;
+use crate::terms::Names;
 use no_memory::NoMemory;
-use std::alloc::{AllocError, Global};
-
-static KINDS: [&str; 1] = ["rows"];
+use std::alloc::Global;
 
 const ROW: &str = "row ";
 
-static UNITS: [&str; 1] = ["rows"];
+/// What the lines of a row have said so far.
+pub trait RowLines<'a>: Drop {
+    fn new(alloc: Global) -> Self;
 
-/// A line for each row of a file that differs, and one that counts.
-pub fn told(alloc: Global, file: &str, text: &str) -> Result<String, AllocError> {
-    let mut outcome = Outcome::new(alloc, &UNITS);
-    match tell(alloc, file, text, &mut outcome) {
-        Ok(()) => Ok(outcome.text),
-        Err(NoMemory) => Err(AllocError),
-    }
+    /// Takes a line.
+    fn take(&mut self, names: &Names<'_>, line: &'a str) -> Result<(), Fault>;
+
+    /// Whether they say what is run.
+    fn is_whole(&self) -> bool;
+
+    /// Tells the first difference, if there is one, in one line.
+    fn tell(&mut self, text: &mut String) -> Result<bool, Fault>;
 }
 
-fn tell(alloc: Global, file: &str, text: &str, outcome: &mut Outcome) -> Result<(), NoMemory> {
-    let suite = Suite::of(alloc, &KINDS, text, &mut outcome.text)?;
-    for block in suite.blocks() {
-        let checked = check(alloc, file, suite.names(), block, outcome);
-        told_fault(checked, block.name, &mut outcome.text)?;
-    }
-    outcome.tell_count(file)
-}
-
-// Runs the rows of a group. The lines before the first are of each of them.
-fn check(
-    alloc: Global,
+/// Tells which rows of a group differ. Its lines before the first row are of each of them.
+pub fn check_rows<'a, R: RowLines<'a>>(
     file: &str,
     names: &Names<'_>,
-    block: &Block<'_>,
+    block: &Block<'a>,
     outcome: &mut Outcome,
 ) -> Result<(), Fault> {
     let lines = block.lines.as_slice();
@@ -48,7 +40,7 @@ fn check(
     for at in first..lines.len() {
         if lines[at].starts_with(ROW) {
             let own = &lines[at..row_from(lines, at + 1)];
-            check_row(alloc, file, names, &lines[..first], own, outcome)?;
+            check_row::<R>(file, names, &lines[..first], own, outcome)?;
         }
     }
     Ok(())
@@ -68,19 +60,18 @@ fn row_from(lines: &[&str], from: usize) -> usize
     lines.len()
 }
 
-fn check_row(
-    alloc: Global,
+fn check_row<'a, R: RowLines<'a>>(
     file: &str,
     names: &Names<'_>,
-    head: &[&str],
-    lines: &[&str],
+    head: &[&'a str],
+    lines: &[&'a str],
     outcome: &mut Outcome,
 ) -> Result<(), NoMemory> {
     let [first, own @ ..] = lines else {
         return Ok(());
     };
-    let mut difference = String::new(alloc);
-    let differs = match difference_of(alloc, names, head, own, &mut difference) {
+    let mut difference = String::new(*outcome.text.allocator());
+    let differs = match difference_of::<R>(names, head, own, &mut difference) {
         Ok(differs) => differs,
         Err(Fault::NoMemory) => return Err(NoMemory),
         Err(Fault::Line) => true,
@@ -94,14 +85,13 @@ fn check_row(
 }
 
 // Tells where a row differs, or the first of its lines that is not understood.
-fn difference_of(
-    alloc: Global,
+fn difference_of<'a, R: RowLines<'a>>(
     names: &Names<'_>,
-    head: &[&str],
-    own: &[&str],
+    head: &[&'a str],
+    own: &[&'a str],
     difference: &mut String,
 ) -> Result<bool, Fault> {
-    let mut row = Row::new(alloc);
+    let mut row = R::new(*difference.allocator());
     if take_lines(&mut row, names, head, difference)?
         || take_lines(&mut row, names, own, difference)?
     {
@@ -111,12 +101,12 @@ fn difference_of(
         difference.push_str("fault: no run")?;
         return Ok(true);
     }
-    tell_row(&mut row, difference)
+    row.tell(difference)
 }
 
 // Takes these lines, and tells the first that is not understood, if one is not.
-fn take_lines<'a>(
-    row: &mut Row<'a>,
+fn take_lines<'a, R: RowLines<'a>>(
+    row: &mut R,
     names: &Names<'_>,
     lines: &[&'a str],
     difference: &mut String,
