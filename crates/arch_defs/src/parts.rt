@@ -27,7 +27,7 @@ pub const RAM_BASE: u64 = 0x8000_0000;
 /// The frames of machine memory that a guest has: its blocks, in the order in which its RAM goes through
 /// them; its roots, of four frames each, the host table's first and then one for each space; and its other
 /// table frames, one of the host table's first and then those of each space. It names no frame twice.
-#[derive(Clone, Copy, PartialEq, Eq)]
+#[derive(Clone, Copy)]
 pub struct Part {
     // Those from `count` on are zero.
     slots: [u32; MOST_BLOCKS],

@@ -1,13 +1,20 @@
 -- The numbers of statuses, interrupts and other registers under the masks of their writable bits: of what a write takes
 -- from a value, and of what they show.
+use mir.Val.{bool_byte}
 use Rattle.std.specs.Prelude.{bit_and, Bool, true, false}
 use Rattle.std.proofs.Common.{◌≡◌, ℕ, ◌+◌, ◌-◌, ◌*◌, ◌^◌, ◌<◌, arith}
 use Rattle.std.proofs.lemmas.Nat.{and-not, and_comm, and_mask}
+use Rattle.arch_defs.specs.Bits.{bit_number}
 use Rattle.arch_defs.specs.declared.registers.SupervisorStatus.{SupervisorStatus}
 use Rattle.arch_defs.specs.declared.registers.HypervisorStatus.{HypervisorStatus}
 use Rattle.arch_defs.specs.declared.registers.Interrupts.{Interrupts}
 use Rattle.arch_defs.specs.CsrBits.{sstatus_bits, sstatus_of, hstatus_bits, hstatus_of, sip_bits, supervisor_interrupts, hip_bits, virtual_interrupts, tvec_bits, epc_bits, hedeleg_bits}
 use Rattle.csr_file.proofs.Masks.{masked, under, flag}
+
+-- a flag's number, moved to its place
+pub flag_at : (place : ℕ) (flag : Bool) → bool_byte flag * 2 ^ place ≡ bit_number place flag
+flag_at place true = omega arith
+flag_at place false = omega arith
 
 pub status_taken : (v : ℕ) → bit_and v 0xC0122 + 2 * 2 ^ 32 ≡ sstatus_bits (sstatus_of v)
 unfolding sstatus_bits sstatus_of masked

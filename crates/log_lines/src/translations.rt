@@ -140,10 +140,12 @@ fn add_since(line: &mut Text, since: Option<u64>)
     ensures text { line.new.items ≡ line.old.items ++ since_text since }
     ensures short { length line.new.items ≤ length line.old.items + 30 }
 {
-    add(line, b" since ");
     match since {
-        Some(step) => add_decimal(line, step),
-        None => add(line, b"before"),
+        Some(step) => {
+            add(line, b" since ");
+            add_decimal(line, step);
+        }
+        None => add(line, b" since before"),
     }
 }
 

@@ -1,9 +1,10 @@
 -- What the index of a word tells of its opcode, and funct3 of its bits.
-use Rattle.std.proofs.Common.{cond, ◌≡◌, ℕ, ◌+◌, ◌*◌, ◌/◌, ◌%◌, ◌^◌, ◌<◌, Bool, true, false, None, nat_eq, refl, arith}
+use Rattle.std.proofs.Common.{cond, ◌≡◌, ℕ, ◌+◌, ◌*◌, ◌/◌, ◌%◌, ◌^◌, ◌<◌, Bool, true, false, Some, None, nat_eq, refl, arith}
 use Rattle.std.specs.Prelude.{◌||◌, not}
 use Rattle.std.proofs.lemmas.Bool.{eqb-false, ne_eqb}
 use Rattle.arch_defs.specs.Bits.{field}
-use Rattle.op_defs.specs.Fields.{funct3, opcode}
+use Rattle.op_defs.specs.declared.ops.Op.TheVariants.{Auipc, Jal, Lui}
+use Rattle.op_defs.specs.Fields.{funct3, j_immediate, opcode, rd, u_immediate}
 use Rattle.op_defs.specs.Table.{atomic_of, fence_of, op_of, system_of}
 use Rattle.rv64_decode.specs.Common.{IsIndex, common_op_of, spread_of}
 
@@ -70,3 +71,19 @@ uncommon word lui auipc jal jalr branch load store immediate register word_immed
     by false true system = refl
     by false false true = refl
     by false false false = refl
+
+-- an index of one of the opcodes without a funct3 is of that instruction
+of_opcode : (index word upper : ℕ) → IsIndex index word → index < 256 → index % 32 ≡ upper + 1 → upper < 31 → opcode word ≡ 4 * upper + 3
+of_opcode index word upper is most at small = omega (arith, opcode_at index word is most (omega (arith, at)), at, small)
+
+pub at_load_upper : (index word : ℕ) → IsIndex index word → index < 256 → index % 32 ≡ 14 → Some (Lui (rd word) (u_immediate word)) ≡ common_op_of word
+unfolding common_op_of op_of
+at_load_upper index word is most at = rw (of_opcode index word 13 is most at (omega arith)) refl
+
+pub at_add_upper : (index word : ℕ) → IsIndex index word → index < 256 → index % 32 ≡ 6 → Some (Auipc (rd word) (u_immediate word)) ≡ common_op_of word
+unfolding common_op_of op_of
+at_add_upper index word is most at = rw (of_opcode index word 5 is most at (omega arith)) refl
+
+pub at_jump : (index word : ℕ) → IsIndex index word → index < 256 → index % 32 ≡ 28 → Some (Jal (rd word) (j_immediate word)) ≡ common_op_of word
+unfolding common_op_of op_of
+at_jump index word is most at = rw (of_opcode index word 27 is most at (omega arith)) refl

@@ -1,5 +1,5 @@
 -- Numbers that follow one another, and the commands drawn by them.
-use Rattle.std.proofs.Common.{◌≡◌, ℕ, zero, suc, ◌+◌, ◌*◌, List, [], ◌∷◌, ◌++◌, length, refl, ap, sym, ◌∙◌, arith, length-append}
+use Rattle.std.proofs.Common.{◌≡◌, ℕ, zero, suc, ◌+◌, ◌*◌, List, [], ◌∷◌, ◌++◌, length, refl, ap, sym, ◌∙◌, arith, append_assoc, length-append}
 use Rattle.std.proofs.Math.Nat.{mul-add}
 use Rattle.std.specs.Prelude.{map}
 use Rattle.std.specs.List.{flat_map, range_with_len}
@@ -71,3 +71,18 @@ one_byte_more seed i byte before after e f g =
     g ∙ ap (λ b. b ++ byte ∷ []) f
     ∙ ap (λ b. map each (range_with_len 0 i) ++ b ∷ []) e
     ∙ sym (map-range_with_len_more each 0 i i (omega arith))
+
+-- bytes appended behind those that were appended before
+appended : (old done more before after : List ℕ) → before ≡ old ++ done → after ≡ before ++ more → after ≡ old ++ (done ++ more)
+appended old done more before after so_far is = is ∙ ap (λ b. b ++ more) so_far ∙ append_assoc old done more
+
+-- a command's doublewords, appended one after the other
+pub command_appended : (c : Command) (old b1 b2 b3 b4 : List ℕ) → b1 ≡ old ++ little_bytes 8 c.address → b2 ≡ b1 ++ little_bytes 8 c.value
+    → b3 ≡ b2 ++ little_bytes 8 c.fence → b4 ≡ b3 ++ little_bytes 8 c.pointer → b4 ≡ old ++ command_bytes c
+command_appended c old b1 b2 b3 b4 h1 h2 h3 h4 =
+    let address = little_bytes 8 c.address in
+    let value = little_bytes 8 c.value in
+    let fence = little_bytes 8 c.fence in
+    let two = appended old address value b1 b2 h1 h2 in
+    let three = appended old (address ++ value) fence b2 b3 two h3 in
+    appended old (address ++ value ++ fence) (little_bytes 8 c.pointer) b3 b4 three h4
