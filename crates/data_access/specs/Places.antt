@@ -1,11 +1,11 @@
--- Where an access is made, by both stages as the registers and memory are.
-use Rattle.std.specs.Prelude.{ℕ, ◌≡◌, ◌+◌, ◌%◌, ◌≤◌, ⊤, Bool, false, length, Result}
+-- Where an access is made, by both stages as the registers and memory are, and memory after it.
+use Rattle.std.specs.Prelude.{ℕ, ◌≡◌, ◌+◌, ◌%◌, ◌≤◌, ⊤, Bool, false, length, Option, Result}
 use Rattle.arch_defs.specs.declared.modes.Access.{Access}
 use Rattle.arch_defs.specs.declared.modes.Mode.{Mode}
 use Rattle.arch_defs.specs.declared.modes.Trap.{Trap}
 use Rattle.arch_defs.specs.declared.registers.Csrs.{Csrs}
 use Rattle.arch_defs.specs.declared.widths.Width.{Width}
-use Rattle.arch_defs.specs.Memory.{Memory}
+use Rattle.arch_defs.specs.Memory.{Memory, Stored, with_stored}
 use Rattle.arch_defs.specs.Widths.{bytes_in}
 use Rattle.machine_defs.specs.Answers.{answer_of, mmu_by_walk}
 use Rattle.machine_defs.specs.Core.{Located, accessed}
@@ -39,3 +39,9 @@ pub record IsPlaceFor (memory : Memory) (width : Width) (place : ℕ) : Type 0 w
 abbrev pub FitsIn : Memory → Width → Place → Type 0
 FitsIn memory width (InMemory place) = IsPlaceFor memory width place
 FitsIn memory width (OnDevice offset) = ⊤
+
+-- memory with what an access stores, if it stores: the same addresses, and no other byte changed
+pub record HoldsStored (before : Memory) (stored : Option Stored) (after : Memory) : Type 0 where
+  pub base : after.base ≡ before.base
+  pub size : length after.bytes ≡ length before.bytes
+  pub bytes : after.bytes ≡ with_stored before.base stored before.bytes

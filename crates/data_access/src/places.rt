@@ -1,12 +1,12 @@
 // Where an access is made, and what is read and written there in memory.
 
-ghost use Rattle.std.specs.Prelude.{◌≡◌, ◌%◌, ◌==◌, IfOk, length};
-ghost use Rattle.arch_defs.specs.Memory.{reading_of, with_stored};
+ghost use Rattle.std.specs.Prelude.{◌≡◌, ◌%◌, ◌==◌, IfOk};
+ghost use Rattle.arch_defs.specs.Memory.{reading_of};
 ghost use Rattle.arch_defs.specs.Traps.{exception, faults_of};
 ghost use Rattle.arch_defs.specs.Widths.{bytes_in};
 ghost use Rattle.machine_defs.specs.Core.{kind_of, storing};
 ghost use Rattle.phys_mem.specs.MemoryBytes.{IsWhole};
-ghost use Rattle.data_access.specs.Places.{FitsIn, IsPlaceFor, place_or_page, place_or_trap};
+ghost use Rattle.data_access.specs.Places.{FitsIn, HoldsStored, IsPlaceFor, place_or_page, place_or_trap};
 
 use crate::purposes::kind_of;
 use arch_defs::{Access, Csrs, Mode, Trap, Width};
@@ -102,10 +102,7 @@ pub fn read_at<M: Mem>(mem: &M, place: u64, width: Width) -> u64
 pub fn write_at<M: Mem>(mem: &mut M, place: u64, width: Width, value: u64)
     requires backed { M.is_backed mem.old }
     requires place { IsPlaceFor (M.memory mem.old) width place }
-    ensures bytes { (M.memory mem.new).bytes
-        ≡ with_stored (M.memory mem.old).base (storing place width value) (M.memory mem.old).bytes }
-    ensures size { length (M.memory mem.new).bytes ≡ length (M.memory mem.old).bytes }
-    ensures base { (M.memory mem.new).base ≡ (M.memory mem.old).base }
+    ensures memory { HoldsStored (M.memory mem.old) (storing place width value) (M.memory mem.new) }
     ensures backed { M.is_backed mem.new }
     ensures keeps { M.keeps mem.old mem.new }
 {

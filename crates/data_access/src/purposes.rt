@@ -1,11 +1,11 @@
 // What an access to data is for: which access that is, and how the instruction is completed at its place.
 
-ghost use Rattle.std.specs.Prelude.{◌≡◌, ◌⊎◌, length};
-ghost use Rattle.arch_defs.specs.Memory.{reading_of, with_stored};
+ghost use Rattle.std.specs.Prelude.{◌≡◌, ◌⊎◌, ◌==◌, ◌&&◌};
+ghost use Rattle.arch_defs.specs.Memory.{reading_of};
 ghost use Rattle.arch_defs.specs.Widths.{bytes_in, extended};
 ghost use Rattle.machine_defs.specs.Core.{completed, is_reserved, kind_of, stored_if, storing};
 ghost use Rattle.arch_defs.specs.Registers.{passed, sets};
-ghost use Rattle.data_access.specs.Places.{IsPlaceFor};
+ghost use Rattle.data_access.specs.Places.{HoldsStored, IsPlaceFor};
 
 use crate::places::{read_at, write_at};
 use arch_defs::{Access, Reg, Virtual, Width, extend};
@@ -41,11 +41,9 @@ pub fn complete<M: Mem>(
     requires place { IsPlaceFor (M.memory mem.old) width place }
     ensures state { state.new ≡
         (completed (reading_of (M.memory mem.old)) state.old width purpose place).state }
-    ensures bytes { (M.memory mem.new).bytes ≡ with_stored (M.memory mem.old).base
+    ensures memory { HoldsStored (M.memory mem.old)
         (completed (reading_of (M.memory mem.old)) state.old width purpose place).stored
-        (M.memory mem.old).bytes }
-    ensures size { length (M.memory mem.new).bytes ≡ length (M.memory mem.old).bytes }
-    ensures base { (M.memory mem.new).base ≡ (M.memory mem.old).base }
+        (M.memory mem.new) }
     ensures backed { M.is_backed mem.new }
     ensures keeps { (mem.new ≡ mem.old) ⊎ M.keeps mem.old mem.new }
 {
@@ -86,10 +84,7 @@ pub fn store<M: Mem>(mem: &mut M, state: &mut Virtual, width: Width, value: u64,
     requires backed { M.is_backed mem.old }
     requires place { IsPlaceFor (M.memory mem.old) width place }
     ensures state { state.new ≡ passed state.old }
-    ensures bytes { (M.memory mem.new).bytes
-        ≡ with_stored (M.memory mem.old).base (storing place width value) (M.memory mem.old).bytes }
-    ensures size { length (M.memory mem.new).bytes ≡ length (M.memory mem.old).bytes }
-    ensures base { (M.memory mem.new).base ≡ (M.memory mem.old).base }
+    ensures memory { HoldsStored (M.memory mem.old) (storing place width value) (M.memory mem.new) }
     ensures backed { M.is_backed mem.new }
     ensures keeps { M.keeps mem.old mem.new }
 {
@@ -97,12 +92,19 @@ pub fn store<M: Mem>(mem: &mut M, state: &mut Virtual, width: Width, value: u64,
     state.pass();
 }
 
+// Whether two places are the same, each with how many bytes stand there.
+fn is_same(at: u64, bytes: u8, place: u64, count: u8) -> bool
+    ensures { result ≡ (at == place && bytes == count) }
+{
+    at == place && bytes == count
+}
+
 // Whether this place is reserved for this width.
 fn is_reserved(reservation: Option<(u64, u8)>, place: u64, width: Width) -> bool
     ensures { result ≡ is_reserved reservation place width }
 {
     match reservation {
-        Some((at, bytes)) => at == place && bytes == width.bytes(),
+        Some((at, bytes)) => is_same(at, bytes, place, width.bytes()),
         None => false,
     }
 }
@@ -120,11 +122,9 @@ fn store_reserved<M: Mem>(
     requires place { IsPlaceFor (M.memory mem.old) width place }
     ensures state { state.new ≡ (stored_if (is_reserved state.old.reservation place width)
         state.old width value rd place).state }
-    ensures bytes { (M.memory mem.new).bytes ≡ with_stored (M.memory mem.old).base
+    ensures memory { HoldsStored (M.memory mem.old)
         (stored_if (is_reserved state.old.reservation place width)
-        state.old width value rd place).stored (M.memory mem.old).bytes }
-    ensures size { length (M.memory mem.new).bytes ≡ length (M.memory mem.old).bytes }
-    ensures base { (M.memory mem.new).base ≡ (M.memory mem.old).base }
+        state.old width value rd place).stored (M.memory mem.new) }
     ensures backed { M.is_backed mem.new }
     ensures keeps { (mem.new ≡ mem.old) ⊎ M.keeps mem.old mem.new }
 {

@@ -1,7 +1,8 @@
 -- How machine memory is shared out.
-use Rattle.std.specs.Prelude.{ℕ, ◌≡◌, ◌≢◌, ◌+◌, ◌*◌, ◌%◌, ◌<◌, ◌≤◌, true, List, [], ◌∷◌, length, get_or, drop, slice_index}
+use Rattle.std.specs.Prelude.{ℕ, ◌≡◌, ◌≢◌, ◌+◌, ◌*◌, ◌%◌, ◌^◌, ◌<◌, ◌≤◌, true, List, [], ◌∷◌, length, get_or, drop, slice_index}
 use Rattle.guest_settings.specs.declared.needs.Need.{Need}
 use Rattle.frame_split.specs.declared.planning.Free.{Free}
+use Rattle.frame_split.specs.declared.planning.Split.{Split}
 use Rattle.frame_split.specs.declared.faults.PlanFault.{PlanFault}
 use Rattle.frame_split.specs.declared.faults.PlanFault.TheVariants.{NoMemory, TooMuch}
 use Rattle.arch_defs.specs.Frames.{in_blocks, Apart, LieIn, most_frames}
@@ -82,6 +83,11 @@ pub record IsOrdered (from to : Free) : Type 0 where
   pub blocks : 512 * to.block ≤ from.root
   pub roots : to.root ≤ from.table
 
+-- a part can begin there: its roots at a multiple of four frames, its other tables at a number of 32 bits
+pub record CanBegin (free : Free) : Type 0 where
+  pub aligned : free.root % 4 ≡ 0
+  pub small : free.table < 2 ^ 32
+
 -- the blocks, roots and other table frames that all of them need
 abbrev pub blocks_of_all : List Need → ℕ
 blocks_of_all [] = 0
@@ -112,6 +118,22 @@ pub record LeavesSpare (first spare : ℕ) (parts : List Layout) (frames : ℕ) 
   pub apart : (k i : ℕ) (d : Layout) → k < spare → i < length parts
       → Apart (in_blocks ((first + k) ∷ [])) (named_by (get_or parts i d))
   pub lies : (k : ℕ) → k < spare → LieIn (in_blocks ((first + k) ∷ [])) (frames * 4096)
+
+-- machine memory shared out for these needs and that many spare blocks
+pub record IsSharedOut (needs : List Need) (spare : ℕ) (split : Split) : Type 0 where
+  pub parts : IsSplit needs split.parts.items split.frames
+  pub blocks : split.blocks ≡ blocks_of_all needs
+  pub leaves : LeavesSpare split.blocks spare split.parts.items split.frames
+  pub frames : split.frames ≡ frames_with needs spare
+  pub fits : split.frames ≤ most_frames
+
+-- the blocks of all needs have room from a place on up to the roots, these up to the other tables, and these in
+-- memory of that many frames
+pub record HasRoomFor (needs : List Need) (start : Free) (frames : ℕ) : Type 0 where
+  pub blocks : 512 * (start.block + blocks_of_all needs) ≤ start.root
+  pub roots : start.root + 4 * roots_of_all needs ≤ start.table
+  pub tables : start.table + tables_of_all needs ≤ frames
+  pub aligned : start.root % 4 ≡ 0
 
 -- the parts of the needs so far, from one place to another, and what is still to be shared out up to the ends
 pub record SoFar (needs : List Need) (done : ℕ) (parts : List Layout) (start free : Free) (frames : ℕ)

@@ -1,10 +1,9 @@
 // The plan: all blocks first, then all roots, then all other tables, so that no frame is lost.
 
-ghost use Rattle.std.specs.Prelude.{◌≡◌, ℕ, ◌+◌, ◌*◌, ◌%◌, ◌<◌, ◌≤◌, ◌^◌, length, slice_index, IfOk, IfErr, IfSome};
-ghost use Rattle.arch_defs.specs.Frames.{most_frames};
+ghost use Rattle.std.specs.Prelude.{◌≡◌, ℕ, ◌+◌, ◌*◌, ◌<◌, ◌≤◌, ◌^◌, length, slice_index, IfOk, IfErr, IfSome};
 ghost use Rattle.arch_defs.specs.Layouts.{NamesEachOnce, Meets};
 ghost use Rattle.guest_settings.specs.Needs.{tables_for, IsNeed};
-ghost use Rattle.frame_split.specs.Shares.{AreNeeds, BlocksLieBelow, Causes, IsSplit, LeavesSpare, LiesBetween, after_need, blocks_of_all, frames_with, most_guest_tables, RootsLieFrom, roots_of_all, tables_of_all};
+ghost use Rattle.frame_split.specs.Shares.{AreNeeds, BlocksLieBelow, CanBegin, Causes, HasRoomFor, IsOrdered, IsSharedOut, IsSplit, LiesBetween, after_need, blocks_of_all, frames_with, most_guest_tables, RootsLieFrom, roots_of_all, tables_of_all};
 
 use crate::faults::PlanFault;
 use arch_defs::{BLOCK_FRAMES, MOST_BLOCKS, MOST_FRAMES, Need, Part, TABLES_PER_ENTRY};
@@ -43,11 +42,7 @@ pub fn plan(alloc: Global, needs: &[Need], spare: u64) -> Result<Split, PlanFaul
     requires few { length needs.now ≤ 16 }
     requires needs { AreNeeds needs.now }
     requires spare { spare ≤ 32 }
-    ensures split { IfOk result (λ s. IsSplit needs.now s.parts.items s.frames) }
-    ensures blocks { IfOk result (λ s. s.blocks ≡ blocks_of_all needs.now) }
-    ensures spare { IfOk result (λ s. LeavesSpare s.blocks spare s.parts.items s.frames) }
-    ensures frames { IfOk result (λ s. s.frames ≡ frames_with needs.now spare) }
-    ensures fits { IfOk result (λ s. s.frames ≤ most_frames) }
+    ensures shared { IfOk result (IsSharedOut needs.now spare) }
     ensures refused { IfErr result (λ fault. Causes fault (frames_with needs.now spare)) }
 {
     let totals = all_needed(needs);
@@ -110,10 +105,7 @@ fn with_need(totals: Totals, need: &Need) -> Totals
 // The parts from these places on.
 fn share(alloc: Global, needs: &[Need], start: Free, frames: u64) -> Option<Vec<Part>>
     requires needs { AreNeeds needs.now }
-    requires blocks { 512 * (start.block + blocks_of_all needs.now) ≤ start.root }
-    requires roots { start.root + 4 * roots_of_all needs.now ≤ start.table }
-    requires tables { start.table + tables_of_all needs.now ≤ frames }
-    requires aligned { start.root % 4 ≡ 0 }
+    requires room { HasRoomFor needs.now start frames }
     requires most { frames < 2 ^ 32 }
     ensures split { IfSome result (λ parts. IsSplit needs.now parts.items frames) }
     ensures blocks { IfSome result (λ parts. BlocksLieBelow (start.block + blocks_of_all needs.now)
@@ -151,10 +143,8 @@ fn after_need(need: &Need, free: Free) -> Free
 // The part of the next guest.
 fn part_at(need: &Need, free: Free) -> Part
     requires need { IsNeed need.now }
-    requires blocks { 512 * (free.block + need.now.blocks) ≤ free.root }
-    requires roots { free.root + 4 * (1 + need.now.spaces) ≤ free.table }
-    requires aligned { free.root % 4 ≡ 0 }
-    requires small { free.table < 2 ^ 32 }
+    requires begin { CanBegin free }
+    requires ordered { IsOrdered free (after_need need.now free) }
     ensures meets { Meets need.now result }
     ensures once { NamesEachOnce result }
     ensures between { LiesBetween free (after_need need.now free) result }

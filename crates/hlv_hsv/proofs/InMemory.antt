@@ -1,5 +1,6 @@
 -- An access whose place is in memory.
-use Rattle.std.proofs.Common.{◌≡◌, ℕ, Bool, true, false, Ok, refl}
+use Rattle.std.proofs.Common.{◌≡◌, ℕ, Bool, true, false, Ok, refl, subst}
+use Rattle.arch_defs.specs.declared.modes.Mode.{Mode}
 use Rattle.arch_defs.specs.declared.registers.Virtual.{Virtual}
 use Rattle.arch_defs.specs.declared.walks.MissingPlace.{MissingPlace}
 use Rattle.arch_defs.specs.Memory.{Memory, reading_of}
@@ -27,7 +28,9 @@ module _ (device : Bool) (memory : Memory) (state : Virtual) (wanted : DataAcces
   completes_at (Fails (Faults trap)) is = cc
   completes_at (Fails (Misses missing)) is = unplaced missing (is_device_now device state.csrs memory missing) is
 
-  pub in_memory : place_or_page device memory state.csrs (hlv_mode state.csrs) wanted.address wanted.width (kind_of wanted.purpose)
-      ≡ Ok (InMemory place)
+  pub in_memory : (mode : Mode) → mode ≡ hlv_mode state.csrs
+      → place_or_page device memory state.csrs mode wanted.address wanted.width (kind_of wanted.purpose) ≡ Ok (InMemory place)
       → hlv_outcome device memory state wanted ≡ Completes left
-  in_memory = completes_at (hlv_place memory state.csrs wanted)
+  in_memory mode same is =
+      completes_at (hlv_place memory state.csrs wanted)
+      (subst (λ m. place_or_page device memory state.csrs m wanted.address wanted.width (kind_of wanted.purpose) ≡ Ok (InMemory place)) same is)

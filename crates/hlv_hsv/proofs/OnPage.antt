@@ -1,5 +1,5 @@
 -- An access whose place is on the device page.
-use Rattle.std.proofs.Common.{◌≡◌, ℕ, ◌%◌, Bool, true, false, ◌==◌, Option, Some, None, Ok, cond, refl}
+use Rattle.std.proofs.Common.{◌≡◌, ℕ, ◌%◌, Bool, true, false, ◌==◌, Option, Some, None, Ok, cond, refl, subst}
 use Rattle.arch_defs.specs.declared.modes.Access.{Access}
 use Rattle.arch_defs.specs.declared.modes.Access.TheVariants.{Implicit}
 use Rattle.arch_defs.specs.declared.modes.Mode.{Mode}
@@ -61,11 +61,14 @@ module _ (device : Bool) (memory : Memory) (state : Virtual) (console : ConsoleS
   by_first second PageFaults = λ is. cc
   by_first second (MissesEntry place) = missed (unplaced place Implicit) (is_device_now device state.csrs memory (unplaced place Implicit))
 
-  pub on_page : place_or_page device memory state.csrs mode wanted.address wanted.width kind ≡ Ok (OnDevice offset)
+  pub on_page : (computed : Mode) → computed ≡ mode
+      → place_or_page device memory state.csrs computed wanted.address wanted.width kind ≡ Ok (OnDevice offset)
       → hlv_left wanted before (hlv_outcome device memory state wanted)
       ≡ served_from before (exception mode (faults_of kind).access wanted.address)
       (device_completed state console state.csrs.time offset wanted.width wanted.purpose)
-  on_page = by (wanted.address % bytes_in wanted.width == 0)
+  on_page computed same is =
+      by (wanted.address % bytes_in wanted.width == 0)
+      (subst (λ m. place_or_page device memory state.csrs m wanted.address wanted.width kind ≡ Ok (OnDevice offset)) same is)
     where
       by : (aligned : Bool)
           → Left (cond aligned (located_by through.second mode wanted.address kind (found_with (through.known wanted.address kind) (first_stage through.second through.reading state.csrs mode wanted.address kind)))

@@ -1,5 +1,5 @@
 -- What `access` answers and leaves, by how its instruction ends.
-use Rattle.std.specs.Prelude.{◌≡◌, ◌%◌, ⊤, Bool, true, Option, Some, None, Result, Ok, Err}
+use Rattle.std.specs.Prelude.{◌≡◌, ◌%◌, ◌⊎◌, ⊤, length, Bool, true, Option, Some, None, Result, Ok, Err}
 use Rattle.arch_defs.specs.declared.modes.Trap.{Trap}
 use Rattle.arch_defs.specs.declared.registers.Virtual.{Virtual}
 use Rattle.arch_defs.specs.Consoles.{ConsoleState}
@@ -17,6 +17,7 @@ use Rattle.rv64_asm.specs.Fitting.{fits}
 use Rattle.rv64_asm.specs.Words.{encoded}
 use Rattle.hcsr_emulation.specs.declared.registers.Accessed.{Accessed}
 use Rattle.hcsr_emulation.specs.declared.registers.Accessed.TheVariants.{Done, Raise}
+use Rattle.phys_mem.specs.declared.accesses.Mem as mems
 
 -- an HLV, HLVX or HSV
 abbrev pub IsHlvOrHsv : Op → Type 0
@@ -85,3 +86,9 @@ EndsBy device before other answer after = ⊥
 abbrev pub IsAccessed : Op → Bool → HlvState → Accessed → HlvState → Type 0
 IsAccessed o device before answer after = (through : Mmu)
     → EndsBy device before (decoded through before.virt (encoded o) (Some o)) answer after
+
+-- memory is still as long and still backed. It stays, or changes as by a store
+pub record KeepsMemory {Y : Type 0} (M : mems.Ghosts Y) (old new : Y) : Type 0 where
+  pub size : length (M.memory new).bytes ≡ length (M.memory old).bytes
+  pub backed : M.is_backed new
+  pub keeps : (new ≡ old) ⊎ M.keeps old new

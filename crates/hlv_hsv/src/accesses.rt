@@ -1,6 +1,6 @@
 // HLV, HLVX and HSV (Privileged Architecture 20211203, 8.2.1, 8.3.1 and 8.6.1).
 
-ghost use Rattle.std.specs.Prelude.{◌≡◌, ◌⊎◌, length};
+ghost use Rattle.std.specs.Prelude.{◌≡◌};
 ghost use Rattle.arch_defs.specs.Consoles.{ConsoleState};
 ghost use Rattle.arch_defs.specs.Memory.{Memory};
 ghost use Rattle.arch_defs.specs.Traps.{exception, faults_of};
@@ -8,7 +8,7 @@ ghost use Rattle.machine_defs.specs.Core.{kind_of};
 ghost use Rattle.machine_defs.specs.DeviceSteps.{device_completed};
 ghost use Rattle.machine_defs.specs.HlvAccesses.{hlv_mode, hlv_outcome};
 ghost use Rattle.hcsr_emulation.specs.Ends.{IfAccessRaised};
-ghost use Rattle.hlv_hsv.specs.Ends.{EndsAs, IsAccessed, IsHlvOp, hlv_left, hlv_state, served_from};
+ghost use Rattle.hlv_hsv.specs.Ends.{EndsAs, IsAccessed, IsHlvOp, KeepsMemory, hlv_left, hlv_state, served_from};
 ghost use Rattle.hlv_hsv.specs.Places.{hlv_place_in};
 
 use arch_defs::{Csrs, Mode, Trap, Virtual};
@@ -62,9 +62,7 @@ pub fn access<M: Mem>(
         result (hlv_state state.new (M.memory mem.new) console.new) }
     ensures stays { IfAccessRaised result
         ((state.new ≡ state.old) × (console.new ≡ console.old) × (mem.new ≡ mem.old)) }
-    ensures size { length (M.memory mem.new).bytes ≡ length (M.memory mem.old).bytes }
-    ensures backed { M.is_backed mem.new }
-    ensures keeps { (mem.new ≡ mem.old) ⊎ M.keeps mem.old mem.new }
+    ensures keeps { KeepsMemory M.Mem mem.old mem.new }
 {
     match emulate(state, op) {
         Emulated::Accesses(wanted) => make(mem, state, wanted, device, console),
@@ -88,9 +86,7 @@ fn make<M: Mem>(
         result (hlv_state state.new (M.memory mem.new) console.new) }
     ensures stays { IfAccessRaised result
         ((state.new ≡ state.old) × (console.new ≡ console.old) × (mem.new ≡ mem.old)) }
-    ensures size { length (M.memory mem.new).bytes ≡ length (M.memory mem.old).bytes }
-    ensures backed { M.is_backed mem.new }
-    ensures keeps { (mem.new ≡ mem.old) ⊎ M.keeps mem.old mem.new }
+    ensures keeps { KeepsMemory M.Mem mem.old mem.new }
 {
     let mode = hlv_mode(&state.csrs);
     match place_or_page(mem, device, &state.csrs, mode, &wanted) {

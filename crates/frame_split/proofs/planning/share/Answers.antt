@@ -9,28 +9,21 @@ use Rattle.frame_split.proofs.planning.share.Goals as goal
 pub loop-i-init : goal.loop-i-init
 loop-i-init c =
     rw c.in-Ok.ensures.items
-    (so_far_none c.args.needs.now c.args.start c.args.frames c.requires.blocks c.requires.roots c.requires.tables c.requires.aligned)
+    (so_far_none c.args.needs.now c.args.start c.args.frames c.requires.room.blocks c.requires.room.roots c.requires.room.tables c.requires.room.aligned)
 
-pub part_at-part-requires-clause-blocks : goal.part_at-part-requires-clause-blocks
-part_at-part-requires-clause-blocks c =
-    omega (
-      arith,
-      c.loop-i.invariant.blocks,
-      c.loop-i.invariant.from.1,
-      blocks_more c.args.needs.now c.loop-i.i (record { blocks = 0; spaces = 0; entries = 0 }) c.loop-i-test.true,
-    )
+pub part_at-part-requires-clause-begin : goal.part_at-part-requires-clause-begin
+part_at-part-requires-clause-begin c = record {
+  aligned = c.loop-i.invariant.aligned;
+  small = omega (arith, c.loop-i.invariant.tables, c.requires.most);
+}
 
-pub part_at-part-requires-clause-roots : goal.part_at-part-requires-clause-roots
-part_at-part-requires-clause-roots c =
-    omega (
-      arith,
-      c.loop-i.invariant.roots,
-      c.loop-i.invariant.from.2,
-      roots_more c.args.needs.now c.loop-i.i (record { blocks = 0; spaces = 0; entries = 0 }) c.loop-i-test.true,
-    )
-
-pub part_at-part-requires-clause-small : goal.part_at-part-requires-clause-small
-part_at-part-requires-clause-small c = omega (arith, c.loop-i.invariant.tables, c.requires.most)
+pub part_at-part-requires-clause-ordered : goal.part_at-part-requires-clause-ordered
+part_at-part-requires-clause-ordered c =
+    let need : Need = record { blocks = 0; spaces = 0; entries = 0 } in
+    record {
+      blocks = omega (arith, c.loop-i.invariant.blocks, c.loop-i.invariant.from.1, blocks_more c.args.needs.now c.loop-i.i need c.loop-i-test.true);
+      roots = omega (arith, c.loop-i.invariant.roots, c.loop-i.invariant.from.2, roots_more c.args.needs.now c.loop-i.i need c.loop-i-test.true);
+    }
 
 pub after_need-free-requires-clause-room : goal.after_need-free-requires-clause-room
 after_need-free-requires-clause-room c = (
