@@ -14,12 +14,12 @@ use Rattle.arch_defs.specs.Spaces.{entered, fenced, fenced_space}
 use Rattle.arch_defs.proofs.FrameSets.{only_both, only_none}
 use Rattle.shadow_space.specs.Shadows.{KeepsSpace, Tidy, root_of}
 use Rattle.shadow_pool.specs.declared.slots.Slot.{Slot}
-use Rattle.shadow_pool.specs.Slots.{AreFolded, ArePooled, KeepsPool, TidyPool, filled_for, front_root, has_key, most_of, part_of, pool_frames, pool_of, space_of, spaces_in}
+use Rattle.shadow_pool.specs.Slots.{ArePooled, KeepsPool, TidyPool, filled_for, front_root, has_key, most_of, part_of, pool_frames, pool_of, space_of, spaces_in}
 use Rattle.shadow_pool.proofs.Entering.{entered_found, entered_new}
 use Rattle.shadow_pool.proofs.Filling.{fenced_spaces, filled_spaces, held_spaces, no_position}
 use Rattle.shadow_pool.proofs.Fronting.{IsChanged, last_moved, moved_count, moved_slots, new_slots, slots_changed}
 use Rattle.shadow_pool.proofs.Ordering.{all_moved}
-use Rattle.shadow_pool.proofs.Tidying.{all_folded, one_only, one_tidy, one_written}
+use Rattle.shadow_pool.proofs.Tidying.{one_only, one_tidy, one_written}
 
 -- a value of hgatp is entered
 pub record IsEntered (key : GuestRoot) (slots : List Slot) (old : List ℕ) (after : List Slot) (new : List ℕ) : Type 0 where

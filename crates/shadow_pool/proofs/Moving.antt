@@ -12,9 +12,9 @@ use Rattle.shadow_space.specs.Moves.{IsMovedPart}
 use Rattle.shadow_space.specs.Shadows.{Tidy, own_frames}
 use Rattle.shadow_space.proofs.Tidying.{lasts}
 use Rattle.shadow_pool.specs.declared.slots.Slot.{Slot}
-use Rattle.shadow_pool.specs.Moves.{pool_in_part, slot_in_part}
-use Rattle.shadow_pool.specs.Slots.{AreFolded, AreSlots, AreTidy, ComesBefore, IsSlot, TidyPool, front_root, most_of, part_of, pool_frames, pool_of, space_of, spaces_in}
-use Rattle.shadow_pool.proofs.Tidying.{all_folded, frames_apart, frames_within}
+use Rattle.shadow_pool.specs.Moves.{IsMovedPool, pool_in_part, slot_in_part}
+use Rattle.shadow_pool.specs.Slots.{AreSlots, AreTidy, ComesBefore, FoldedPool, IsSlot, TidyPool, front_root, most_of, part_of, pool_frames, pool_of, space_of, spaces_in}
+use Rattle.shadow_pool.proofs.Tidying.{frames_apart, frames_within, pool_folded}
 
 -- the first i tables have the other part, and each has the frames that it had
 pub record IsMoving (part : Layout) (slots : List Slot) (old : List ℕ) (i : ℕ) (between : List Slot) (memory : List ℕ) : Type 0 where
@@ -151,20 +151,15 @@ module _ (part : Layout) (slots : List Slot) (are : AreSlots (part_of slots) (mo
 
 -- the pool that all moved tables are
 pub record HasMoved (part : Layout) (slots after : List Slot) (memory : List ℕ) : Type 0 where
-  pub pool : pool_of after ≡ pool_in_part part (pool_of slots)
-  pub spaces : spaces_in after ≡ spaces_in slots
-  pub root : front_root after ≡ front_root slots
-  pub tidy : TidyPool (pool_of after) memory
-  pub folded : AreFolded after memory
+  pub moved : IsMovedPool part (pool_of slots) (pool_of after)
+  pub folded : FoldedPool (pool_of after) memory
 
 pub has_moved : (part : Layout) (slots : List Slot) (old : List ℕ) (i : ℕ) (after : List Slot) (memory : List ℕ) → TidyPool (pool_of slots) old → IsMovedPart (part_of slots) part → NamesEachOnce part
     → IsMoving part slots old i after memory → length slots ≤ i → HasMoved part slots after memory
 has_moved part slots old i after memory tidy moved once so all = record {
-  pool = pool;
-  spaces = ap spaces_in is ∙ spaces_stay part slots;
-  root = ap front_root is ∙ root_stays part slots moved;
-  tidy = subst (λ pool. TidyPool pool memory) (sym pool) (record { slots = slots_moved part slots tidy.slots moved once; tables = subst (λ after. AreTidy after memory) is so.tidy });
-  folded = all_folded after memory so.tidy;
+  moved = record { pool = pool; spaces = ap spaces_in is ∙ spaces_stay part slots; root = ap front_root is ∙ root_stays part slots moved };
+  folded = pool_folded after memory
+      (subst (λ pool. TidyPool pool memory) (sym pool) (record { slots = slots_moved part slots tidy.slots moved once; tables = subst (λ after. AreTidy after memory) is so.tidy }));
 }
   where
     is : after ≡ map (slot_in_part part) slots

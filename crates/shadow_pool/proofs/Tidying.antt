@@ -13,7 +13,7 @@ use Rattle.shadow_space.proofs.Partings.{spaces_apart}
 use Rattle.shadow_space.proofs.Tidying.{folded, lasts, tables_end}
 use Rattle.shadow_pool.specs.declared.slots.Slot.{Slot}
 use Rattle.arch_defs.specs.declared.roots.GuestRoot.{GuestRoot}
-use Rattle.shadow_pool.specs.Slots.{AreFolded, AreSlots, AreTidy, ComesBefore, IsSlot, has_key, key_is, table_frames_for}
+use Rattle.shadow_pool.specs.Slots.{AreSlots, AreTidy, ComesBefore, FoldedPool, IsSlot, TidyPool, has_key, key_is, pool_of, table_frames_for}
 use Rattle.shadow_pool.proofs.Ordering.{pairs_set}
 
 -- a space's frames are among those of that many spaces
@@ -105,5 +105,5 @@ module _ (part : Layout) (most : ℕ) (slots : List Slot) (are : AreSlots part m
       }
 
 -- tidy tables are folded
-pub all_folded : (slots : List Slot) (memory : List ℕ) → AreTidy slots memory → AreFolded slots memory
-all_folded slots memory tidy k d h = folded (get_or slots k d).space memory (tidy k d h)
+pub pool_folded : (slots : List Slot) (memory : List ℕ) → TidyPool (pool_of slots) memory → FoldedPool (pool_of slots) memory
+pool_folded slots memory tidy = record { tidy = tidy; folded = λ k d h. folded (get_or slots k d).space memory (tidy.tables k d h) }

@@ -5,9 +5,10 @@ use Rattle.std.specs.List.{All, AllPairs, filter_map, slice_index_or}
 use Rattle.arch_defs.specs.declared.cached.Entry.{Entry}
 use Rattle.arch_defs.specs.declared.roots.GuestRoot.{GuestRoot}
 use Rattle.arch_defs.specs.declared.roots.GuestRoot.TheVariants as guest_root
-use Rattle.arch_defs.specs.CachedEntries.{filled}
+use Rattle.arch_defs.specs.CachedEntries.{CanFill, filled}
 use Rattle.arch_defs.specs.Frames.{Frames, LieIn, Only, joined, within}
 use Rattle.arch_defs.specs.Layouts.{Layout, NamesEachOnce, no_part, space_frames}
+use Rattle.guest_settings.specs.Limits.{most_entries}
 use Rattle.guest_settings.specs.Needs.{tables_for}
 use Rattle.arch_defs.specs.Roots.{is_root}
 use Rattle.arch_defs.specs.Spaces.{Space, is_for}
@@ -108,6 +109,13 @@ most_of (slot ∷ slots) = slot.space.most
 abbrev pub ArePooled : List Slot → Type 0
 ArePooled slots = AreSlots (part_of slots) (most_of slots) slots
 
+-- a part can have that many spaces, and at least one, with room for that many entries each
+pub record CanHaveSpaces (part : Layout) (spaces entries : ℕ) : Type 0 where
+  pub some : 1 ≤ spaces
+  pub own : spaces ≤ part.spaces
+  pub few : entries ≤ most_entries
+  pub room : entries ≤ part.entries
+
 -- a pool: the guest's part, at most how many entries a space has, and a table for each space that there may
 -- be
 pub record Pooled : Type 0 where
@@ -134,6 +142,16 @@ pool_frames pool = table_frames_for pool.part (room_of pool)
 pub record TidyPool (pool : Pooled) (memory : List ℕ) : Type 0 where
   pub slots : AreSlots pool.part pool.most pool.slots
   pub tables : AreTidy pool.slots memory
+
+-- memory has the table of each of its spaces: it is tidy, and gives the entries
+pub record FoldedPool (pool : Pooled) (memory : List ℕ) : Type 0 where
+  pub tidy : TidyPool pool memory
+  pub folded : AreFolded pool.slots memory
+
+-- an entry can be filled into the space for a value of hgatp
+pub record CanFillFor (key : GuestRoot) (pool : Pooled) (e : Entry) : Type 0 where
+  pub held : HasSpaceFor key (spaces_of pool)
+  pub entry : CanFill pool.part.blocks e
 
 -- what no call changes: a pool's part, its room, and memory but for the bytes of its own frames
 pub record KeepsPool (old : Pooled) (memory : List ℕ) (new : Pooled) (changed : List ℕ) : Type 0 where

@@ -2,16 +2,18 @@
 
 ghost use Rattle.std.specs.Prelude.{◌≡◌, ◌<◌, ◌≤◌, ◌%◌, ◌^◌, ℕ, List, [], length, slice_index_or, IfOk};
 ghost use Rattle.arch_defs.specs.declared.cached.Entry.{Entry};
-ghost use Rattle.arch_defs.specs.CachedEntries.{CanFill, device_by_entries};
+ghost use Rattle.arch_defs.specs.CachedEntries.{device_by_entries};
 ghost use Rattle.arch_defs.specs.Frames.{LieIn, Only};
 ghost use Rattle.arch_defs.specs.Spaces.{entered, fenced, front};
+ghost use Rattle.guest_settings.specs.Limits.{most_entries};
 ghost use Rattle.shadow_space.specs.Moves.{IsMovedPart};
-ghost use Rattle.shadow_space.specs.Shadows.{AreZeros};
-ghost use Rattle.shadow_pool.specs.Moves.{pool_in_part};
-ghost use Rattle.shadow_pool.specs.Slots.{AreFolded, AreSpare, HasSpaceFor, IsSpare, KeepsPool, TidyPool, filled_for, front_root, pool_frames, room_of, space_at, spaces_of};
+ghost use Rattle.shadow_space.specs.Shadows.{AreZeros, CanHaveSpace, IsRootFrame};
+ghost use Rattle.shadow_pool.specs.Moves.{IsMovedPool};
+ghost use Rattle.shadow_pool.specs.Slots.{AreSpare, CanFillFor, CanHaveSpaces, FoldedPool, HasSpaceFor, IsSpare, KeepsPool, TidyPool, filled_for, front_root, pool_frames, room_of, space_at, spaces_of};
 
 use crate::slots::{
-    Slot, enter, entries_at, fence, fill, front_entries, is_on_device, key_at, move_to, used,
+    Slot, enter, entries_at, entry_in, fence, fill, front_entries, is_on_device, key_at, move_to,
+    used,
 };
 use arch_defs::{Access, Entry, Fence, Key, Part};
 use no_memory::NoMemory;
@@ -45,10 +47,7 @@ impl Pool {
     /// A pool of at most that many spaces, of at most that many entries each, in the frames that a part has
     /// for them. There are none yet. It may answer out of memory.
     pub fn new(alloc: Global, part: &Part, spaces: u64, entries: u64) -> Result<Pool, NoMemory>
-        requires some { 1 ≤ spaces }
-        requires own { spaces ≤ part.now.spaces }
-        requires few { entries ≤ 256 }
-        requires room { entries ≤ part.now.entries }
+        requires { CanHaveSpaces part.now spaces entries }
         ensures part { IfOk result (λ pool. pool.part ≡ part.now) }
         ensures most { IfOk result (λ pool. pool.most ≡ entries) }
         ensures room { IfOk result (λ pool. room_of pool ≡ spaces) }
@@ -68,12 +67,9 @@ impl Pool {
         requires tidy { TidyPool self.old mem.old }
         ensures spaces { spaces_of self.new ≡ entered (room_of self.old) key (spaces_of self.old) }
         ensures held { HasSpaceFor key (spaces_of self.new) }
-        ensures root { result ≡ front_root self.new.slots }
-        ensures aligned { result % 4 ≡ 0 }
-        ensures small { result < 2 ^ 44 }
+        ensures root { IsRootFrame (front_root self.new.slots) result }
         ensures keeps { KeepsPool self.old mem.old self.new mem.new }
-        ensures tidy { TidyPool self.new mem.new }
-        ensures folded { AreFolded self.new.slots mem.new }
+        ensures folded { FoldedPool self.new mem.new }
     {
         enter(self.slots.as_mut_slice(), mem, key);
         self.root()
@@ -81,9 +77,7 @@ impl Pool {
 
     /// The frame of the root of the front space's table, a multiple of four.
     pub fn root(&self) -> u64
-        ensures value { result ≡ front_root self.now.slots }
-        ensures aligned { result % 4 ≡ 0 }
-        ensures small { result < 2 ^ 44 }
+        ensures { IsRootFrame (front_root self.now.slots) result }
     {
         let front = &self.slots[0];
         front.space.root()
@@ -108,13 +102,11 @@ impl Pool {
     /// and else, where there are as many as there may be, the oldest one.
     pub fn fill(&mut self, mem: &mut PhysMem, key: Key, entry: Entry)
         requires tidy { TidyPool self.old mem.old }
-        requires held { HasSpaceFor key (spaces_of self.old) }
-        requires entry { CanFill self.old.part.blocks entry }
+        requires entry { CanFillFor key self.old entry }
         ensures spaces { spaces_of self.new ≡ filled_for key self.old.most (spaces_of self.old) entry }
         ensures root { front_root self.new.slots ≡ front_root self.old.slots }
         ensures keeps { KeepsPool self.old mem.old self.new mem.new }
-        ensures tidy { TidyPool self.new mem.new }
-        ensures folded { AreFolded self.new.slots mem.new }
+        ensures folded { FoldedPool self.new mem.new }
     {
         fill(self.slots.as_mut_slice(), mem, key, entry);
     }
@@ -126,8 +118,7 @@ impl Pool {
         ensures spaces { spaces_of self.new ≡ fenced named (spaces_of self.old) }
         ensures root { front_root self.new.slots ≡ front_root self.old.slots }
         ensures keeps { KeepsPool self.old mem.old self.new mem.new }
-        ensures tidy { TidyPool self.new mem.new }
-        ensures folded { AreFolded self.new.slots mem.new }
+        ensures folded { FoldedPool self.new mem.new }
     {
         fence(self.slots.as_mut_slice(), mem, &named);
     }
@@ -177,7 +168,8 @@ impl Pool {
         requires entry { j < length (space_at (spaces_of self.now) i).entries }
         ensures { (d : Entry) → result ≡ slice_index_or (space_at (spaces_of self.now) i).entries j d }
     {
-        entries_at(self.slots.as_slice(), i as usize)[j as usize]
+        let entries = entries_at(self.slots.as_slice(), i as usize);
+        entry_in(entries, j as usize)
     }
 
     /// Takes over a part that differs from the kept one in the numbers of its blocks alone, of which it has
@@ -185,12 +177,9 @@ impl Pool {
     pub fn moved(&mut self, mem: &mut PhysMem, part: &Part)
         requires tidy { TidyPool self.old mem.old }
         requires part { IsMovedPart self.old.part part.now }
-        ensures pool { self.new ≡ pool_in_part part.now self.old }
-        ensures spaces { spaces_of self.new ≡ spaces_of self.old }
-        ensures root { front_root self.new.slots ≡ front_root self.old.slots }
+        ensures moved { IsMovedPool part.now self.old self.new }
         ensures only { Only (pool_frames self.old) mem.old mem.new }
-        ensures tidy { TidyPool self.new mem.new }
-        ensures folded { AreFolded self.new.slots mem.new }
+        ensures folded { FoldedPool self.new mem.new }
     {
         move_to(self.slots.as_mut_slice(), mem, part);
     }
@@ -199,7 +188,7 @@ impl Pool {
 // The first tables of a part, for spaces that there are not yet.
 fn spare_slots(alloc: Global, part: &Part, spaces: u64, entries: u64) -> Result<Vec<Slot>, NoMemory>
     requires own { spaces ≤ part.now.spaces }
-    requires few { entries ≤ 256 }
+    requires few { entries ≤ most_entries }
     requires room { entries ≤ part.now.entries }
     ensures { IfOk result (λ slots. AreSpare part.now entries spaces slots.items) }
 {
@@ -212,9 +201,7 @@ fn spare_slots(alloc: Global, part: &Part, spaces: u64, entries: u64) -> Result<
 
 // The table of a part with this number, for a space that there is not yet.
 fn spare_slot(alloc: Global, part: &Part, i: u64, entries: u64) -> Result<Slot, NoMemory>
-    requires own { i < part.now.spaces }
-    requires few { entries ≤ 256 }
-    requires room { entries ≤ part.now.entries }
+    requires { CanHaveSpace part.now i entries }
     ensures { IfOk result (λ slot. IsSpare part.now entries i slot) }
 {
     let space = Box::new(alloc, Space::new(part, i, entries))?;

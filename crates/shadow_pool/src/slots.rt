@@ -2,14 +2,15 @@
 
 ghost use Rattle.std.specs.Prelude.{◌≡◌, [], ◌∷◌, ◌<◌, ◌≤◌, Some, length, option_map, remove, slice_index_or};
 ghost use Rattle.std.specs.List.{AllPairs, position};
+ghost use Rattle.arch_defs.specs.declared.cached.Entry.{Entry};
 ghost use Rattle.arch_defs.specs.CachedEntries.{CanFill, device_by_entries, filled};
 ghost use Rattle.arch_defs.specs.Frames.{Only};
 ghost use Rattle.arch_defs.specs.Spaces.{entered, fenced, fenced_space, front, names_vmid};
 ghost use Rattle.shadow_space.specs.Moves.{IsMovedPart};
 ghost use Rattle.shadow_space.specs.Shadows.{KeepsSpace, Tidy, own_frames};
 ghost use Rattle.shadow_pool.specs.declared.slots.Slot.{Slot};
-ghost use Rattle.shadow_pool.specs.Moves.{pool_in_part, slot_in_part};
-ghost use Rattle.shadow_pool.specs.Slots.{AreFolded, ComesBefore, HasSpaceFor, KeepsPool, TidyPool, filled_for, front_root, has_key, is_spare, most_of, part_of, pool_frames, pool_of, space_at, space_of, spaces_in};
+ghost use Rattle.shadow_pool.specs.Moves.{IsMovedPool, slot_in_part};
+ghost use Rattle.shadow_pool.specs.Slots.{CanFillFor, ComesBefore, FoldedPool, HasSpaceFor, KeepsPool, TidyPool, filled_for, front_root, has_key, is_spare, most_of, part_of, pool_frames, pool_of, space_at, space_of, spaces_in};
 
 use arch_defs::{Access, Entry, Fence, Key, Part};
 use phys_mem::PhysMem;
@@ -39,8 +40,7 @@ pub fn enter(slots: &mut [Slot], mem: &mut PhysMem, key: Key)
     ensures spaces { spaces_in slots.new ≡ entered (length slots.old) key (spaces_in slots.old) }
     ensures held { HasSpaceFor key (spaces_in slots.new) }
     ensures keeps { KeepsPool (pool_of slots.old) mem.old (pool_of slots.new) mem.new }
-    ensures tidy { TidyPool (pool_of slots.new) mem.new }
-    ensures folded { AreFolded slots.new mem.new }
+    ensures folded { FoldedPool (pool_of slots.new) mem.new }
 {
     match place_of(slots, key) {
         Some(i) => to_front(slots, i),
@@ -120,6 +120,14 @@ pub fn entries_at(slots: &[Slot], i: usize) -> &[Entry]
     slot.space.entries()
 }
 
+/// An entry of a space's entries, entry 0 being the oldest.
+pub fn entry_in(entries: &[Entry], j: usize) -> Entry
+    requires { j < length entries.now }
+    ensures { (d : Entry) → result ≡ slice_index_or entries.now j d }
+{
+    entries[j]
+}
+
 /// The entries of the front space, the oldest first.
 #[tactic(auto, using(crate::proofs::Listing::entries_spare, crate::proofs::Listing::entries_used))]
 pub fn front_entries(slots: &[Slot]) -> &[Entry]
@@ -171,13 +179,11 @@ fn renew(slot: &mut Slot, mem: &mut PhysMem, key: Key)
 /// Fills an entry of the space for a value of hgatp, which has one.
 pub fn fill(slots: &mut [Slot], mem: &mut PhysMem, key: Key, entry: Entry)
     requires tidy { TidyPool (pool_of slots.old) mem.old }
-    requires held { HasSpaceFor key (spaces_in slots.old) }
-    requires entry { CanFill (part_of slots.old).blocks entry }
+    requires entry { CanFillFor key (pool_of slots.old) entry }
     ensures spaces { spaces_in slots.new ≡ filled_for key (most_of slots.old) (spaces_in slots.old) entry }
     ensures root { front_root slots.new ≡ front_root slots.old }
     ensures keeps { KeepsPool (pool_of slots.old) mem.old (pool_of slots.new) mem.new }
-    ensures tidy { TidyPool (pool_of slots.new) mem.new }
-    ensures folded { AreFolded slots.new mem.new }
+    ensures folded { FoldedPool (pool_of slots.new) mem.new }
 {
     match place_of(slots, key) {
         Some(i) => fill_one(&mut slots[i], mem, entry),
@@ -203,8 +209,7 @@ pub fn fence(slots: &mut [Slot], mem: &mut PhysMem, fence: &Fence)
     ensures spaces { spaces_in slots.new ≡ fenced fence.now (spaces_in slots.old) }
     ensures root { front_root slots.new ≡ front_root slots.old }
     ensures keeps { KeepsPool (pool_of slots.old) mem.old (pool_of slots.new) mem.new }
-    ensures tidy { TidyPool (pool_of slots.new) mem.new }
-    ensures folded { AreFolded slots.new mem.new }
+    ensures folded { FoldedPool (pool_of slots.new) mem.new }
 {
     for i in 0..slots.len() {
         fence_one(&mut slots[i], mem, fence);
@@ -234,12 +239,9 @@ fn fence_one(slot: &mut Slot, mem: &mut PhysMem, fence: &Fence)
 pub fn move_to(slots: &mut [Slot], mem: &mut PhysMem, part: &Part)
     requires tidy { TidyPool (pool_of slots.old) mem.old }
     requires part { IsMovedPart (part_of slots.old) part.now }
-    ensures pool { pool_of slots.new ≡ pool_in_part part.now (pool_of slots.old) }
-    ensures spaces { spaces_in slots.new ≡ spaces_in slots.old }
-    ensures root { front_root slots.new ≡ front_root slots.old }
+    ensures moved { IsMovedPool part.now (pool_of slots.old) (pool_of slots.new) }
     ensures only { Only (pool_frames (pool_of slots.old)) mem.old mem.new }
-    ensures tidy { TidyPool (pool_of slots.new) mem.new }
-    ensures folded { AreFolded slots.new mem.new }
+    ensures folded { FoldedPool (pool_of slots.new) mem.new }
 {
     part.names_each_once();
     for i in 0..slots.len() {

@@ -12,11 +12,11 @@ use Rattle.arch_defs.proofs.FrameSets.{only_both}
 use Rattle.shadow_space.specs.declared.cached.CachedTable.{CachedTable}
 use Rattle.shadow_space.specs.declared.frames.TableFrames.{TableFrames}
 use Rattle.shadow_space.specs.declared.writing.Tables.{Tables}
-use Rattle.shadow_space.specs.Held.{Holds, HoldsList, KeepsTable, held_in, number_of}
+use Rattle.shadow_space.specs.Held.{CanPut, Holds, HoldsList, KeepsTable, held_in, number_of}
 use Rattle.shadow_space.specs.Leaves.{leaf_word, leaves}
 use Rattle.shadow_space.specs.Trees.{HasTables, IsOwn, frames_of, most_tables, slots, top}
 use Rattle.guest_settings.specs.Limits.{most_entries}
-use Rattle.shadow_space.specs.Ways.{IsUnderWay, UnderWay, number_with}
+use Rattle.shadow_space.specs.Ways.{CanFollow, IsUnderWay, UnderWay, number_with}
 use Rattle.shadow_space.proofs.Adding.{low_slots}
 use Rattle.shadow_space.proofs.Counting.{counted_inside}
 use Rattle.shadow_space.proofs.Finding.{leaf_here, leaf_there}
@@ -158,8 +158,21 @@ module _ (tables : Tables) (blocks : List ℕ) (most : ℕ) (entries : List Entr
         (subst (λ f. HasPut f (with_word m2 (512 * low + e.page % 512) value)) (sym frames_is) (put_with value is small))
 
 -- so of a table as a whole, before its tables are entered and after
-pub entering : (tables : Tables) (old : CachedTable) (memory : List ℕ) (e : Entry) → Holds tables old memory → length old.entries < old.most → UnderWay tables old e.page top (top + 1) [] memory
-entering tables old memory e holds room = before tables old.part.blocks old.most old.entries old.frames memory e holds room
+pub can_put : (tables : Tables) (old new : CachedTable) (memory m1 : List ℕ) (e : Entry) (left : List Entry) → CanFill old.part.blocks e → new.entries ≡ left → length left < old.most
+    → All (λ x. HasOtherPage x e) left → KeepsTable tables old memory new m1 → Holds tables new m1 → CanPut tables new m1 e
+can_put tables old new memory m1 e left can entries few others keeps holds = record {
+  holds = holds;
+  room = subst (λ n. length new.entries < n) (sym keeps.most) (subst (λ es. length es < old.most) (sym entries) few);
+  entry = subst (λ part. CanFill part.blocks e) (sym keeps.part) can;
+  others = subst (All (λ x. HasOtherPage x e)) (sym entries) others;
+}
+
+pub entering : (tables : Tables) (old : CachedTable) (memory : List ℕ) (e : Entry) → CanPut tables old memory e → CanFollow tables old e.page top (top + 1) [] memory
+entering tables old memory e can = record {
+  page = can.entry.page;
+  room = record { count = can.holds.count; bound = can.holds.bound; room = can.room };
+  stands = before tables old.part.blocks old.most old.entries old.frames memory e can.holds can.room;
+}
 
 module _ (tables : Tables) (old : CachedTable) (memory : List ℕ) (e : Entry) (holds : Holds tables old memory) (room : length old.entries < old.most) (can : CanFill old.part.blocks e)
     (others : All (λ x. HasOtherPage x e) old.entries) (between : CachedTable) (m1 way : List ℕ) (rest : between ≡ record old { frames = between.frames })

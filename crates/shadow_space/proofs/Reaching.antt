@@ -6,7 +6,7 @@ use Rattle.arch_defs.specs.declared.cached.Entry.{Entry}
 use Rattle.arch_defs.specs.CachedEntries.{CanFill}
 use Rattle.shadow_space.specs.Held.{number_of, Holds, KeepsTable}
 use Rattle.shadow_space.specs.Leaves.{leaves}
-use Rattle.shadow_space.specs.Reaching.{FreeAreZeros, IsReached, IsReachedBy, PointsTo}
+use Rattle.shadow_space.specs.Reaching.{IsReached, IsReachedBy, PointsTo}
 use Rattle.shadow_space.specs.Shadows.{IsTidy, Shadow, Tidy, root_of, tables_in, IsShadow, shadow_of}
 use Rattle.shadow_space.specs.Trees.{Content, Free, Table, entry_of, pointer_of, prefix, slots, top}
 use Rattle.shadow_space.proofs.Adding.{low_slots}
@@ -18,7 +18,7 @@ use Rattle.shadow_space.proofs.Tidying.{tidy_parts, folded, tidy_kept}
 use Rattle.table_words.proofs.Pointers.{pointer_some}
 use Rattle.shadow_space.specs.declared.cached.CachedTable.{CachedTable}
 use Rattle.shadow_space.specs.declared.writing.Tables.{Tables}
-use Rattle.shadow_space.specs.Folding.{Folded}
+use Rattle.shadow_space.specs.Folding.{FoldedSpace}
 use Rattle.table_words.specs.Words.{doubleword_at}
 use Rattle.table_words.proofs.Words.{same_or}
 
@@ -112,14 +112,13 @@ module _ (space : Shadow) (memory : List ℕ) (tidy : IsTidy space memory) where
       by (Table h k) is =
           absurd (missed (top - h, omega arith, reached (top - h) frame h k (level h k (tidy.holds.stands.sound.proper frame h k is)) (tidy.holds.stands.sound.back frame h k is)))
 
-pub unreached : (space : Shadow) (memory : List ℕ) → Tidy space memory → FreeAreZeros space memory
-unreached space memory tidy = record { each = free space memory (tidy_parts space memory tidy) }
+-- a tidy space's table is in memory
+pub has_folded : (space : Shadow) (memory : List ℕ) → Tidy space memory → FoldedSpace space memory
+has_folded space memory tidy =
+    record { tidy = tidy; folded = folded space memory tidy; zeros = record { each = free space memory (tidy_parts space memory tidy) } }
 
 -- so of a space with another list in its tables
 module _ (index : ℕ) (old new : CachedTable) (before memory : List ℕ) (tables : Tables) (is : IsShadow (shadow_of index old)) (same : tables ≡ tables_in old.part index)
     (keeps : KeepsTable tables old before new memory) (holds : Holds tables new memory) where
-  pub kept_zeros : FreeAreZeros (shadow_of index new) memory
-  kept_zeros = unreached (shadow_of index new) memory (tidy_kept index old new before memory tables is same keeps holds)
-
-  pub kept_folded : Folded (shadow_of index new) memory
-  kept_folded = folded (shadow_of index new) memory (tidy_kept index old new before memory tables is same keeps holds)
+  pub kept_folded : FoldedSpace (shadow_of index new) memory
+  kept_folded = has_folded (shadow_of index new) memory (tidy_kept index old new before memory tables is same keeps holds)

@@ -10,19 +10,18 @@ use Rattle.arch_defs.specs.Layouts.{Layout, NamesEachOnce}
 use Rattle.shadow_space.specs.declared.cached.CachedTable.{CachedTable}
 use Rattle.shadow_space.specs.declared.frames.TableFrames.{TableFrames}
 use Rattle.shadow_space.specs.declared.writing.Tables.{Tables}
-use Rattle.shadow_space.specs.Folding.{Folded}
+use Rattle.shadow_space.specs.Folding.{FoldedSpace}
 use Rattle.shadow_space.specs.Held.{Holds, HoldsList, Stands, held_in, number_of}
 use Rattle.shadow_space.specs.Leaves.{leaf_word_if, leaf_word, leaves}
 use Rattle.shadow_space.specs.Moves.{IsMovedPart}
-use Rattle.shadow_space.specs.Reaching.{FreeAreZeros}
 use Rattle.shadow_space.specs.Shadows.{HasSmallNumbers, IsShadow, Tidy, shadow_of, tables_in}
 use Rattle.shadow_space.specs.Trees.{HasTables, IsOwn, Says, frames_of, slots}
 use Rattle.shadow_space.proofs.Adding.{low_slots}
 use Rattle.shadow_space.proofs.Finding.{found_has}
 use Rattle.shadow_space.proofs.Leafing.{leaf_says}
-use Rattle.shadow_space.proofs.Reaching.{unreached}
+use Rattle.shadow_space.proofs.Reaching.{has_folded}
 use Rattle.shadow_space.proofs.Slots.{own_frame, own_room}
-use Rattle.shadow_space.proofs.Tidying.{folded, own_small, tidy_from}
+use Rattle.shadow_space.proofs.Tidying.{own_small, tidy_from}
 use Rattle.table_words.specs.Words.{doubleword_at, with_word}
 use Rattle.table_words.proofs.Words.{only_word, same_or, word_here, word_there}
 
@@ -217,11 +216,8 @@ module _ (index : ℕ) (old new : CachedTable) (part : Layout) (memory : List �
   tidy_there : Tidy (shadow_of index in_other) memory
   tidy_there = tidy_from (shadow_of index in_other) memory (record { is = is_shadow; lies = there.placed.lies; holds = there })
 
-  pub tidy_moved : Tidy (shadow_of index new) memory
+  tidy_moved : Tidy (shadow_of index new) memory
   tidy_moved = subst (λ table. Tidy (shadow_of index table) memory) (sym new_is) tidy_there
 
-  pub folded_moved : Folded (shadow_of index new) memory
-  folded_moved = folded (shadow_of index new) memory tidy_moved
-
-  pub zeros_moved : FreeAreZeros (shadow_of index new) memory
-  zeros_moved = unreached (shadow_of index new) memory tidy_moved
+  pub folded_moved : FoldedSpace (shadow_of index new) memory
+  folded_moved = has_folded (shadow_of index new) memory tidy_moved

@@ -4,7 +4,7 @@ use Rattle.std.proofs.lemmas.Bool.{cases_lt}
 use Rattle.std.proofs.lemmas.List.Edits.{get_or-remove_above, get_or-remove_below, length-remove}
 use Rattle.std.proofs.lemmas.List.Quantifiers.{all_pairs_remove}
 use Rattle.arch_defs.specs.declared.cached.Entry.{Entry}
-use Rattle.arch_defs.specs.CachedEntries.{CanFill, HasOtherPage}
+use Rattle.arch_defs.specs.CachedEntries.{CanFill, HasOtherPage, guest_page_bits}
 use Rattle.arch_defs.specs.Frames.{Only}
 use Rattle.arch_defs.proofs.FrameSets.{only_both}
 use Rattle.shadow_space.specs.declared.cached.CachedTable.{CachedTable}
@@ -13,7 +13,7 @@ use Rattle.shadow_space.specs.declared.writing.Tables.{Tables}
 use Rattle.shadow_space.specs.Held.{HasMovedUp, Holds, HoldsList, IsKept, KeepsTable, held_in, number_of}
 use Rattle.shadow_space.specs.Leaves.{leaves}
 use Rattle.shadow_space.specs.Trees.{HasTables, IsOwn, frames_of, prefix, slots, top}
-use Rattle.shadow_space.specs.Ways.{IsUnderWay, UnderWay, number_with}
+use Rattle.shadow_space.specs.Ways.{HasRoom, IsUnderWay, UnderWay, number_with}
 use Rattle.shadow_space.proofs.Adding.{low_slots}
 use Rattle.shadow_space.proofs.Editing.{all_removed, leaf_gone, leaf_other}
 use Rattle.shadow_space.proofs.Leafing.{leaf_says}
@@ -144,6 +144,8 @@ module _ (tables : Tables) (old : CachedTable) (memory : List ℕ) (i : ℕ) (d 
     (page place : ℕ) (page_is : page ≡ (get_or old.entries i d).page) (place_is : place ≡ slice_index old.frames.places i)
     (entries1 : List Entry) (entries_is : entries1 ≡ remove old.entries i) where
   pub record IsTaking (frames1 : TableFrames) (m1 : List ℕ) : Type 0 where
+    pub small : page < 2 ^ guest_page_bits
+    pub room : HasRoom tables old.most entries1
     pub stands : IsUnderWay tables old.part.blocks old.most entries1 page 0 (top + 1) [] (held_in frames1 m1)
     pub only : Only (frames_of tables) memory m1
 
@@ -151,7 +153,11 @@ module _ (tables : Tables) (old : CachedTable) (memory : List ℕ) (i : ℕ) (d 
       → m1 ≡ with_word memory (512 * (tables.first + place) + page % 512) 0 → IsTaking frames1 m1
   taking frames1 m1 frames_is up m1_is =
       let left = has_left tables old.part.blocks old.most old.entries old.frames memory i d holds inside page place page_is place_is frames1 m1 frames_is up m1_is in
+      let count = length-remove old.entries i inside in
+      let few = holds.few in
       record {
+        small = subst (λ n. n < 2 ^ guest_page_bits) (sym page_is) (holds.fill i d inside).page;
+        room = record { count = holds.count; bound = holds.bound; room = subst (λ es. length es < old.most) (sym entries_is) (omega (arith, count, few)) };
         stands = subst (λ es. IsUnderWay tables old.part.blocks old.most es page 0 (top + 1) [] (held_in frames1 m1)) (sym entries_is) left.stands;
         only = left.only;
       }

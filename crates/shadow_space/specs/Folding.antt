@@ -10,7 +10,8 @@ use Rattle.arch_defs.specs.TableEntries.{needs_dirty, pte_of}
 use Rattle.arch_defs.specs.Walk.{EntryReading, Met, path, walk}
 use Rattle.arch_defs.specs.CachedEntries.{entry_at, is_device}
 use Rattle.shadow_space.specs.Leaves.{frame_of_ram, leaf_parts}
-use Rattle.shadow_space.specs.Shadows.{Shadow, own_frames, root_of}
+use Rattle.shadow_space.specs.Reaching.{FreeAreZeros}
+use Rattle.shadow_space.specs.Shadows.{Shadow, Tidy, own_frames, root_of}
 use Rattle.shadow_space.specs.Trees.{folded_shape}
 use Rattle.table_words.specs.Entries.{ReadsIn}
 
@@ -49,3 +50,10 @@ pub record Folded (space : Shadow) (memory : List ℕ) : Type 0 where
   pub inside : (reading : EntryReading) (va : ℕ) (access : Access)
       → ReadsIn (own_frames space) memory reading
       → LieWithin (own_frames space) (path reading (root_of space) folded_shape va access)
+
+-- memory has a space's table: it is tidy, it gives the entries, and the frames that it has no use for are
+-- zeros
+pub record FoldedSpace (space : Shadow) (memory : List ℕ) : Type 0 where
+  pub tidy : Tidy space memory
+  pub folded : Folded space memory
+  pub zeros : FreeAreZeros space memory

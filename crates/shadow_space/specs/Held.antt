@@ -56,6 +56,11 @@ pub record IsCounting (frames : TableFrames) (first frame : ℕ) : Type 0 where
   pub inside : frame - first < most_tables
   pub room : slice_index frames.counts (frame - first) < 65535
 
+-- memory has a doubleword of this number
+pub record HasDoubleword (memory : List ℕ) (i : ℕ) : Type 0 where
+  pub inside : 8 * i + 8 ≤ length memory
+  pub small : i < 2 ^ 60
+
 -- with one more entry in the table that doubleword i points to. Where it points to none, a free frame becomes
 -- it
 unfoldable pub table_entered : ℕ → ℕ → Held → Held
@@ -147,6 +152,13 @@ pub record HasMovedUp (old new : List ℕ) (i count : ℕ) : Type 0 where
 abbrev pub Holds : Tables → CachedTable → List ℕ → Type 0
 Holds tables table memory =
     HoldsList tables table.part.blocks table.most table.entries table.frames memory
+
+-- an entry can be put behind the others: there is room for it, and none of them has its page
+pub record CanPut (tables : Tables) (table : CachedTable) (memory : List ℕ) (e : Entry) : Type 0 where
+  pub holds : Holds tables table memory
+  pub room : length table.entries < table.most
+  pub entry : CanFill table.part.blocks e
+  pub others : All (λ other. HasOtherPage other e) table.entries
 
 -- what no call changes: the part of a list's tables, its room, and memory but for the bytes of their frames
 pub record KeepsTable (tables : Tables) (old : CachedTable) (memory : List ℕ) (new : CachedTable)

@@ -1,5 +1,5 @@
 -- A space and the bytes of its table.
-use Rattle.std.specs.Prelude.{ℕ, ◌≡◌, ◌+◌, ◌*◌, ◌/◌, ◌<◌, ◌≤◌, ◌^◌, true, List, length, slice_index}
+use Rattle.std.specs.Prelude.{ℕ, ◌≡◌, ◌+◌, ◌*◌, ◌/◌, ◌%◌, ◌<◌, ◌≤◌, ◌^◌, true, List, length, slice_index}
 use Rattle.std.specs.List.{All, AllPairs}
 use Rattle.arch_defs.specs.declared.cached.Entry.{Entry}
 use Rattle.arch_defs.specs.Frames.{Frames, LieIn, Only}
@@ -35,6 +35,12 @@ shadow_of index table = record {
 abbrev pub root_of : Shadow → ℕ
 root_of space = space.part.first_root + 4 * (1 + space.index)
 
+-- the frame of a root, a multiple of four with room in an entry
+pub record IsRootFrame (root frame : ℕ) : Type 0 where
+  pub value : frame ≡ root
+  pub aligned : frame % 4 ≡ 0
+  pub small : frame < 2 ^ 44
+
 -- its frames
 abbrev pub own_frames : Shadow → Frames
 own_frames space = space_frames space.part space.index
@@ -54,6 +60,12 @@ pub record HasSmallNumbers (part : Layout) : Type 0 where
   pub table : part.first_table < 2 ^ 32
   pub spaces : part.spaces < 2 ^ 16
   pub entries : part.entries < 2 ^ 16
+
+-- a part can have the space of this number, with room for that many entries
+pub record CanHaveSpace (part : Layout) (number entries : ℕ) : Type 0 where
+  pub index : number < part.spaces
+  pub few : entries ≤ most_entries
+  pub room : entries ≤ part.entries
 
 -- what holds of each space: its part has it, with frames for that many entries; these are at most that many,
 -- and each can be filled and has a page of its own

@@ -1,7 +1,8 @@
 -- The way of a page through its tables, from the root to the lowest one, and tables that the change of an
 -- entry is under way in (own).
-use Rattle.std.specs.Prelude.{ℕ, zero, suc, ◌≡◌, ◌+◌, ◌-◌, ◌*◌, ◌%◌, ◌<◌, ◌≤◌, ◌==◌, ◌&&◌, List, length, nat_le, slice_index, if◌then◌else◌}
+use Rattle.std.specs.Prelude.{ℕ, zero, suc, ◌≡◌, ◌+◌, ◌-◌, ◌*◌, ◌%◌, ◌<◌, ◌≤◌, ◌^◌, ◌==◌, ◌&&◌, List, length, nat_le, slice_index, if◌then◌else◌}
 use Rattle.arch_defs.specs.declared.cached.Entry.{Entry}
+use Rattle.arch_defs.specs.CachedEntries.{guest_page_bits}
 use Rattle.shadow_space.specs.declared.cached.CachedTable.{CachedTable}
 use Rattle.shadow_space.specs.declared.writing.Tables.{Tables}
 use Rattle.shadow_space.specs.Held.{Held, IsKept, Stands, held_in, number_of}
@@ -45,3 +46,10 @@ abbrev pub UnderWay : Tables → CachedTable → ℕ → ℕ → ℕ → List �
 UnderWay tables table page from known way memory =
     IsUnderWay tables table.part.blocks table.most table.entries page from known way
     (held_in table.frames memory)
+
+-- the tables of the page of this number can be followed: one more entry has room, and the change of an entry is under way in them
+pub record CanFollow (tables : Tables) (table : CachedTable) (number from known : ℕ) (way : List ℕ)
+    (memory : List ℕ) : Type 0 where
+  pub page : number < 2 ^ guest_page_bits
+  pub room : HasRoom tables table.most table.entries
+  pub stands : UnderWay tables table number from known way memory

@@ -1,14 +1,13 @@
 // A list of cached translations, and the tables in which it stands.
 
 ghost use Rattle.std.specs.Prelude.{◌≡◌, ◌+◌, ◌-◌, ◌*◌, ◌%◌, ◌<◌, ◌≤◌, ◌^◌, [], ◌∷◌, ◌++◌, drop, filter, length, not, remove, slice_index_or};
-ghost use Rattle.std.specs.List.{All};
-ghost use Rattle.arch_defs.specs.CachedEntries.{CanFill, HasOtherPage, filled, guest_page_bits};
+ghost use Rattle.arch_defs.specs.CachedEntries.{CanFill, filled};
 ghost use Rattle.arch_defs.specs.Frames.{Only};
 ghost use Rattle.arch_defs.specs.Spaces.{names_page};
-ghost use Rattle.shadow_space.specs.Held.{Holds, KeepsTable};
+ghost use Rattle.shadow_space.specs.Held.{CanPut, Holds, KeepsTable};
 ghost use Rattle.shadow_space.specs.Leaves.{leaf_word};
 ghost use Rattle.shadow_space.specs.Trees.{frames_of, top};
-ghost use Rattle.shadow_space.specs.Ways.{HasRoom, UnderWay};
+ghost use Rattle.shadow_space.specs.Ways.{CanFollow, UnderWay};
 ghost use Rattle.table_words.specs.Words.{changed, with_word};
 
 use crate::frames::TableFrames;
@@ -32,9 +31,7 @@ pub struct CachedTable {
 impl CachedTable {
     // The frames of a page's tables, by level, from the root down.
     fn way_to(&self, mem: &PhysMem, tables: &Tables, page: u64) -> [u64; LEVELS]
-        requires page { page < 2 ^ guest_page_bits }
-        requires room { HasRoom tables.now self.now.most self.now.entries }
-        requires stands { UnderWay tables.now self.now page 0 (top + 1) [] mem.now }
+        requires { CanFollow tables.now self.now page 0 (top + 1) [] mem.now }
         ensures { UnderWay tables.now self.now page 0 0 result mem.now }
     {
         let mut way = [tables.root; LEVELS];
@@ -49,9 +46,7 @@ impl CachedTable {
 
     // One more entry in each of a page's tables, which are made where they are not. Tells their frames.
     fn enter_tables(&mut self, mem: &mut PhysMem, tables: &Tables, page: u64) -> [u64; LEVELS]
-        requires page { page < 2 ^ guest_page_bits }
-        requires room { HasRoom tables.now self.old.most self.old.entries }
-        requires stands { UnderWay tables.now self.old page top (top + 1) [] mem.old }
+        requires { CanFollow tables.now self.old page top (top + 1) [] mem.old }
         ensures rest { self.new ≡ record self.old { frames = self.new.frames } }
         ensures stands { UnderWay tables.now self.new page 0 0 result mem.new }
         ensures only { Only (frames_of tables.now) mem.old mem.new }
@@ -69,9 +64,7 @@ impl CachedTable {
 
     // One entry less in each of a page's tables, which are in these frames.
     fn leave_tables(&mut self, mem: &mut PhysMem, tables: &Tables, page: u64, way: &[u64; LEVELS])
-        requires page { page < 2 ^ guest_page_bits }
-        requires room { HasRoom tables.now self.old.most self.old.entries }
-        requires stands { UnderWay tables.now self.old page 0 0 way.now mem.old }
+        requires { CanFollow tables.now self.old page 0 0 way.now mem.old }
         ensures rest { self.new ≡ record self.old { frames = self.new.frames } }
         ensures stands { UnderWay tables.now self.new page top top way.now mem.new }
         ensures only { Only (frames_of tables.now) mem.old mem.new }
@@ -115,10 +108,7 @@ impl CachedTable {
 
     // Puts an entry behind the others, of which none has its page.
     fn put(&mut self, mem: &mut PhysMem, tables: &Tables, entry: Entry)
-        requires holds { Holds tables.now self.old mem.old }
-        requires room { length self.old.entries < self.old.most }
-        requires entry { CanFill self.old.part.blocks entry }
-        requires others { All (λ e. HasOtherPage e entry) self.old.entries }
+        requires { CanPut tables.now self.old mem.old entry }
         ensures entries { self.new.entries ≡ self.old.entries ++ entry ∷ [] }
         ensures keeps { KeepsTable tables.now self.old mem.old self.new mem.new }
         ensures holds { Holds tables.now self.new mem.new }

@@ -4,12 +4,10 @@ ghost use Rattle.std.specs.Prelude.{◌≡◌, ℕ, ◌+◌, ◌-◌, ◌*◌, �
 ghost use Rattle.arch_defs.specs.Frames.{LieIn, Only};
 ghost use Rattle.arch_defs.specs.Layouts.{NamesEachOnce, space_frames};
 ghost use Rattle.arch_defs.specs.CachedEntries.{CanFill, cut_by, device_by_entries, filled};
-ghost use Rattle.shadow_space.specs.Folding.{Folded};
+ghost use Rattle.shadow_space.specs.Folding.{FoldedSpace};
 ghost use Rattle.shadow_space.specs.Moves.{IsMovedPart, in_part};
-ghost use Rattle.shadow_space.specs.Reaching.{FreeAreZeros};
-ghost use Rattle.shadow_space.specs.Shadows.{AreZeros, HasSmallNumbers, KeepsSpace, Tidy, own_frames, root_of, tables_in};
+ghost use Rattle.shadow_space.specs.Shadows.{AreZeros, CanHaveSpace, HasSmallNumbers, IsRootFrame, KeepsSpace, Tidy, own_frames, root_of, tables_in};
 ghost use Rattle.shadow_space.specs.Trees.{top};
-ghost use Rattle.guest_settings.specs.Limits.{most_entries};
 ghost use Rattle.table_words.specs.Words.{changed};
 
 use crate::cached::CachedTable;
@@ -45,9 +43,7 @@ impl Model for Space {
 impl Space {
     /// The space of a part with this number, of at most that many entries, without any. It keeps the part.
     pub fn new(part: &Part, i: u64, entries: u64) -> Space
-        requires index { i < part.now.spaces }
-        requires few { entries ≤ most_entries }
-        requires room { entries ≤ part.now.entries }
+        requires { CanHaveSpace part.now i entries }
         ensures part { result.part ≡ part.now }
         ensures index { result.index ≡ i }
         ensures most { result.most ≡ entries }
@@ -69,9 +65,7 @@ impl Space {
 
     /// The frame of the table's root, a multiple of four.
     pub fn root(&self) -> u64
-        ensures value { result ≡ root_of self.now }
-        ensures aligned { result % 4 ≡ 0 }
-        ensures small { result < 2 ^ 44 }
+        ensures { IsRootFrame (root_of self.now) result }
     {
         tables_of(&self.table.part, self.index).root
     }
@@ -108,10 +102,8 @@ impl Space {
         requires entry { CanFill self.old.part.blocks entry }
         ensures entries { self.new.entries ≡ filled self.old.most self.old.entries entry }
         ensures keeps { KeepsSpace self.old mem.old self.new mem.new }
-        ensures tidy { Tidy self.new mem.new }
-        ensures folded { Folded self.new mem.new }
+        ensures folded { FoldedSpace self.new mem.new }
         ensures changed { changed mem.old mem.new ≤ 2 * (top + 1) }
-        ensures zeros { FreeAreZeros self.new mem.new }
     {
         let tables = tables_of(&self.table.part, self.index);
         self.table.fill(mem, &tables, entry);
@@ -122,11 +114,9 @@ impl Space {
         requires tidy { Tidy self.old mem.old }
         ensures entries { self.new.entries ≡ cut_by page self.old.entries }
         ensures keeps { KeepsSpace self.old mem.old self.new mem.new }
-        ensures tidy { Tidy self.new mem.new }
-        ensures folded { Folded self.new mem.new }
+        ensures folded { FoldedSpace self.new mem.new }
         ensures changed { changed mem.old mem.new
             ≤ (top + 1) * (length self.old.entries - length self.new.entries) }
-        ensures zeros { FreeAreZeros self.new mem.new }
     {
         let tables = tables_of(&self.table.part, self.index);
         self.table.drop_named(mem, &tables, Some(page));
@@ -137,11 +127,9 @@ impl Space {
         requires tidy { Tidy self.old mem.old }
         ensures entries { self.new.entries ≡ [] }
         ensures keeps { KeepsSpace self.old mem.old self.new mem.new }
-        ensures tidy { Tidy self.new mem.new }
-        ensures folded { Folded self.new mem.new }
+        ensures folded { FoldedSpace self.new mem.new }
         ensures changed { changed mem.old mem.new
             ≤ (top + 1) * (length self.old.entries - length self.new.entries) }
-        ensures zeros { FreeAreZeros self.new mem.new }
     {
         let tables = tables_of(&self.table.part, self.index);
         self.table.drop_named(mem, &tables, None);
@@ -154,9 +142,7 @@ impl Space {
         requires part { IsMovedPart self.old.part part.now }
         ensures space { self.new ≡ in_part part.now self.old }
         ensures only { Only (own_frames self.old) mem.old mem.new }
-        ensures tidy { Tidy self.new mem.new }
-        ensures folded { Folded self.new mem.new }
-        ensures zeros { FreeAreZeros self.new mem.new }
+        ensures folded { FoldedSpace self.new mem.new }
     {
         numbers_of(part);
         let tables = tables_of(&self.table.part, self.index);

@@ -3,7 +3,7 @@
 ghost use Rattle.std.specs.Prelude.{◌≡◌, ◌≢◌, ◌+◌, ◌-◌, ◌*◌, ◌/◌, ◌<◌, ◌≤◌, ◌^◌, false, length, slice_index};
 ghost use Rattle.arch_defs.specs.CachedEntries.{CanFill, is_device};
 ghost use Rattle.arch_defs.specs.Memory.{block_size, ram_base};
-ghost use Rattle.shadow_space.specs.Held.{HasFree, IsCounting, departed, table_entered, entered_frame, held_in};
+ghost use Rattle.shadow_space.specs.Held.{HasDoubleword, HasFree, IsCounting, departed, table_entered, entered_frame, held_in};
 ghost use Rattle.shadow_space.specs.Leaves.{frame_of_ram, leaf_parts, leaf_word};
 ghost use Rattle.shadow_space.specs.Trees.{most_tables};
 ghost use Rattle.stage_walk.specs.Ends.{PteFits};
@@ -63,8 +63,7 @@ fn host_frame(part: &Part, frame: u64) -> u64
 /// Tells the frame of the table.
 #[tactic(auto, unfolding(crate::specs::Held::table_entered, crate::specs::Held::entered_frame))]
 pub fn enter_table(frames: &mut TableFrames, mem: &mut PhysMem, first: u64, i: u64) -> u64
-    requires inside { 8 * i + 8 ≤ length mem.old }
-    requires small { i < 2 ^ 60 }
+    requires doubleword { HasDoubleword mem.old i }
     requires some { doubleword_at mem.old i ≢ 0
         → IsCounting frames.old first (named_frame (doubleword_at mem.old i)) }
     requires none { doubleword_at mem.old i ≡ 0 → HasFree frames.old first }
@@ -87,8 +86,7 @@ pub fn enter_table(frames: &mut TableFrames, mem: &mut PhysMem, first: u64, i: u
 /// back.
 #[tactic(auto, unfolding(crate::specs::Held::departed))]
 pub fn leave_table(frames: &mut TableFrames, mem: &mut PhysMem, first: u64, i: u64, frame: u64)
-    requires inside { 8 * i + 8 ≤ length mem.old }
-    requires small { i < 2 ^ 60 }
+    requires doubleword { HasDoubleword mem.old i }
     requires counting { IsCounting frames.old first frame }
     requires some { 0 < slice_index frames.old.counts (frame - first) }
     requires room { frames.old.left < most_tables }

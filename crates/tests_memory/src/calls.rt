@@ -3,12 +3,13 @@
 ghost use Rattle.std.specs.Prelude.{◌≡◌, ◌≤◌, ◌<◌, ◌^◌, length};
 ghost use Rattle.shadow_pool.specs.Slots.{TidyPool};
 
-use crate::pools::{Machine, P, Q, R, Room, S, entry, filled, frame_of, machine_with, most_of};
+use crate::pools::{P, Q, R, Room, S, entry, filled, frame_of, machine_with, most_of};
 use arch_defs::GuestRoot;
 use no_memory::NoMemory;
 use phys_mem::PhysMem;
 use shadow_pool::{Fence, Key, Pool};
 use std::alloc::Global;
+use test_spaces::PoolInMemory;
 
 /// A call: a value of hgatp is entered, or is entered and gets a page by a leaf of this level, or a fence
 /// names a VMID and a page.
@@ -39,7 +40,7 @@ const PAGES: [u64; 8] = [
 ];
 
 // Makes the call with this number, and answers the root of the front space.
-fn make(machine: &mut Machine, number: u64, call: Call) -> u64
+fn make(machine: &mut PoolInMemory, number: u64, call: Call) -> u64
     requires tidy { TidyPool machine.old.pool machine.old.mem }
     requires blocks { length machine.old.pool.part.blocks ≡ 2 }
     ensures tidy { TidyPool machine.new.pool machine.new.mem }
@@ -114,7 +115,7 @@ fn tells_spaces(pool: &Pool, rows: &[Row]) -> bool {
 }
 
 // Makes the calls of these rows, and answers the root of a value of hgatp when it was last entered.
-fn made(machine: &mut Machine, rows: &[Row], key: GuestRoot) -> Option<u64>
+fn made(machine: &mut PoolInMemory, rows: &[Row], key: GuestRoot) -> Option<u64>
     requires tidy { TidyPool machine.old.pool machine.old.mem }
     requires blocks { length machine.old.pool.part.blocks ≡ 2 }
     ensures tidy { TidyPool machine.new.pool machine.new.mem }
@@ -190,7 +191,7 @@ fn left_after(numbers: [u16; 3], more: usize, most: usize) -> [u16; 3] {
 // Whether the front space loses its entries one by one, in the order of the numbers, where pages that no call
 // fills are filled.
 fn loses_in_order(
-    machine: &mut Machine,
+    machine: &mut PoolInMemory,
     key: GuestRoot,
     rows: &[Row],
     numbers: [u16; 3],
@@ -217,7 +218,7 @@ fn loses_in_order(
 
 // Whether a space with this root is the front one or not, as it should be, and keeps its root where its value
 // of hgatp is entered.
-fn is_kept(machine: &mut Machine, key: GuestRoot, root: u64, is_front: bool) -> bool
+fn is_kept(machine: &mut PoolInMemory, key: GuestRoot, root: u64, is_front: bool) -> bool
     requires tidy { TidyPool machine.old.pool machine.old.mem }
     requires blocks { length machine.old.pool.part.blocks ≡ 2 }
     ensures tidy { TidyPool machine.new.pool machine.new.mem }

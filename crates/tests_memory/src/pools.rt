@@ -3,50 +3,18 @@
 // those of the spaces from 13 on. So frame 80003 of a guest, the fourth of block 5, is frame 5 * 512 + 3 of
 // machine memory.
 
-ghost use Rattle.std.specs.Prelude.{◌≡◌, ◌≤◌, ◌<◌, ◌^◌, length, IfOk, IfSome};
-ghost use Rattle.arch_defs.specs.Frames.{most_frames};
+ghost use Rattle.std.specs.Prelude.{◌≡◌, ◌<◌, ◌^◌, length, IfOk, IfSome};
 ghost use Rattle.shadow_pool.specs.Slots.{TidyPool};
 
-use arch_defs::{Access, GuestMode, GuestRoot, Shape, TABLES_PER_ENTRY, WalkEnd};
+use arch_defs::{Access, GuestMode, GuestRoot, Shape, WalkEnd};
 use no_memory::NoMemory;
 use phys_mem::PhysMem;
-use shadow_pool::{Entry, Fence, Key, Part, Pool};
+use shadow_pool::{Entry, Fence, Key};
 use stage_walk::walk;
 use std::alloc::Global;
 use std::test::Fail;
-use test_memory::{Words, memory, part};
-
-/// Memory and a pool.
-#[derive(Drop)]
-pub struct Machine {
-    pub mem: PhysMem,
-    pub pool: Pool,
-}
-
-// The pool of all spaces of a part in memory of that many frames of zeros, if these hold the part's tables.
-fn empty_pool(
-    alloc: Global,
-    part: &Part,
-    frames: u64,
-    entries: u64,
-) -> Result<Option<Machine>, NoMemory>
-    requires some { 1 ≤ frames }
-    requires most { frames ≤ most_frames }
-    requires own { 0 < part.now.spaces }
-    requires few { entries ≤ 256 }
-    requires room { entries ≤ part.now.entries }
-    ensures tidy { IfOk result (λ made. IfSome made (λ m. TidyPool m.pool m.mem)) }
-    ensures part { IfOk result (λ made. IfSome made (λ m. m.pool.part ≡ part.now)) }
-{
-    let mem = memory(alloc, frames)?;
-    let spaces = part.spaces();
-    let end = part.host_table() + 1 + spaces * (TABLES_PER_ENTRY * part.entries());
-    if part.host_root() + 4 * (1 + spaces) > frames || end > frames {
-        return Ok(None);
-    }
-    let pool = Pool::new(alloc, part, spaces, entries)?;
-    Ok(Some(Machine { mem, pool }))
-}
+use test_memory::{Words, part};
+use test_spaces::{PoolInMemory, empty_pool};
 
 /// How many entries each of two spaces has room for.
 #[derive(Clone, Copy)]
@@ -63,7 +31,7 @@ pub fn most_of(room: Room) -> usize {
 }
 
 /// Memory with as many frames as the tables of such spaces need.
-pub fn machine_with(alloc: Global, room: Room) -> Result<Option<Machine>, NoMemory>
+pub fn machine_with(alloc: Global, room: Room) -> Result<Option<PoolInMemory>, NoMemory>
     ensures tidy { IfOk result (λ made. IfSome made (λ m. TidyPool m.pool m.mem)) }
     ensures blocks { IfOk result (λ made. IfSome made (λ m. length m.pool.part.blocks ≡ 2)) }
 {
@@ -107,7 +75,7 @@ pub fn entry(page: u64, frame: u64, level: u8) -> Entry {
 
 /// Enters a value of hgatp and fills an entry of its space, if it is one that can be filled. Answers the
 /// root.
-pub fn filled(machine: &mut Machine, key: GuestRoot, entry: Entry) -> u64
+pub fn filled(machine: &mut PoolInMemory, key: GuestRoot, entry: Entry) -> u64
     requires tidy { TidyPool machine.old.pool machine.old.mem }
     requires blocks { length machine.old.pool.part.blocks ≡ 2 }
     ensures tidy { TidyPool machine.new.pool machine.new.mem }

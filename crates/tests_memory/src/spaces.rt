@@ -4,47 +4,16 @@
 // machine memory.
 
 ghost use Rattle.std.specs.Prelude.{◌≡◌, ◌*◌, ◌≤◌, ◌<◌, ◌^◌, length, IfOk, IfSome};
-ghost use Rattle.arch_defs.specs.Frames.{most_frames};
 ghost use Rattle.shadow_space.specs.Shadows.{Tidy};
 
-use arch_defs::{Access, Shape, TABLES_PER_ENTRY, WalkEnd};
+use arch_defs::{Access, Shape, WalkEnd};
 use phys_mem::{NoMemory, PhysMem};
-use shadow_space::{Entry, MOST_ENTRIES, Part, Space};
+use shadow_space::{Entry, MOST_ENTRIES, Space};
 use stage_walk::walk;
 use std::alloc::Global;
 use std::test::Fail;
-use test_memory::{Words, memory, part, word_at};
-
-// Memory and a space.
-#[derive(Drop)]
-struct Machine {
-    mem: PhysMem,
-    space: Space,
-}
-
-// The space of a part in memory of that many frames of zeros, if these hold the part's tables.
-fn empty_space(
-    alloc: Global,
-    part: &Part,
-    frames: u64,
-    entries: u64,
-) -> Result<Option<Machine>, NoMemory>
-    requires some { 1 ≤ frames }
-    requires most { frames ≤ most_frames }
-    requires own { 0 < part.now.spaces }
-    requires few { entries ≤ 256 }
-    requires room { entries ≤ part.now.entries }
-    ensures tidy { IfOk result (λ made. IfSome made (λ m. Tidy m.space m.mem)) }
-    ensures part { IfOk result (λ made. IfSome made (λ m. m.space.part ≡ part.now)) }
-{
-    let mem = memory(alloc, frames)?;
-    let end = part.host_table() + 1 + part.spaces() * (TABLES_PER_ENTRY * part.entries());
-    if part.host_root() + 4 * (1 + part.spaces()) > frames || end > frames {
-        return Ok(None);
-    }
-    let space = Space::new(part, 0, entries);
-    Ok(Some(Machine { mem, space }))
-}
+use test_memory::{Words, part, word_at};
+use test_spaces::{SpaceInMemory, empty_space};
 
 // How many entries a space has room for.
 #[derive(Clone, Copy)]
@@ -55,7 +24,7 @@ enum Room {
 }
 
 // Memory with as many frames as the tables of such a space need.
-fn machine_with(alloc: Global, room: Room) -> Result<Option<Machine>, NoMemory>
+fn machine_with(alloc: Global, room: Room) -> Result<Option<SpaceInMemory>, NoMemory>
     ensures tidy { IfOk result (λ made. IfSome made (λ m. Tidy m.space m.mem)) }
     ensures blocks { IfOk result (λ made. IfSome made (λ m. length m.space.part.blocks ≡ 2)) }
 {
@@ -380,7 +349,7 @@ fn is_made(space: &mut Space, mem: &mut PhysMem, step: Step) -> bool
 }
 
 fn is_right(alloc: Global, case: &Case) -> Result<bool, NoMemory> {
-    let Some(Machine { mut mem, mut space }) = machine_with(alloc, case.room)? else {
+    let Some(SpaceInMemory { mut mem, mut space }) = machine_with(alloc, case.room)? else {
         return Ok(false);
     };
     for i in 0..case.steps.len() {
@@ -436,7 +405,7 @@ fn differing(mem: &PhysMem, before: &[u64]) -> u64 {
 
 // How many doublewords the fill of one more page changes; none where the pages are not as they should be.
 fn changed_by_a_fill(alloc: Global) -> Result<Option<u64>, NoMemory> {
-    let Some(Machine { mut mem, mut space }) = machine_with(alloc, Room::Sixteen)? else {
+    let Some(SpaceInMemory { mut mem, mut space }) = machine_with(alloc, Room::Sixteen)? else {
         return Ok(None);
     };
     fill_spans(&mut space, &mut mem, 16);
@@ -471,7 +440,7 @@ fn a_fill_writes_eight_doublewords(rt: HostRuntime) -> Result<(), Fail> {
 fn move_is_right(alloc: Global) -> Result<bool, NoMemory> {
     let before = part(&[5, 3], 0, 8, 1, 16);
     let after = part(&[7, 3], 0, 8, 1, 16);
-    let Some(Machine { mut mem, mut space }) = empty_space(alloc, &before, 57, 16)? else {
+    let Some(SpaceInMemory { mut mem, mut space }) = empty_space(alloc, &before, 57, 16)? else {
         return Ok(false);
     };
     filled(&mut space, &mut mem, entry(1, 0x8_0003, 0, false));

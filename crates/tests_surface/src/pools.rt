@@ -2,52 +2,20 @@
 // hold tables alone: the host's root from 0 on, those of two spaces from 4 on, the host's other table at 12,
 // and those of the spaces from 13 on.
 
-ghost use Rattle.std.specs.Prelude.{◌≡◌, ◌≤◌, ◌<◌, length, IfOk, IfSome};
-ghost use Rattle.arch_defs.specs.Frames.{most_frames};
+ghost use Rattle.std.specs.Prelude.{◌≡◌, ◌<◌, length, IfOk, IfSome};
 ghost use Rattle.shadow_pool.specs.Slots.{HasSpaceFor, TidyPool, spaces_of};
 
-use arch_defs::{Entry, Fence, GuestMode, GuestRoot, Key, Part, TABLES_PER_ENTRY};
+use arch_defs::{Entry, Fence, GuestMode, GuestRoot, Key};
 use no_memory::NoMemory;
 use phys_mem::PhysMem;
 use shadow_pool::Pool;
 use std::alloc::Global;
 use std::test::Fail;
-use test_memory::{memory, part};
-
-/// Memory and a pool.
-#[derive(Drop)]
-pub struct Machine {
-    pub mem: PhysMem,
-    pub pool: Pool,
-}
-
-// The pool of all spaces of a part in memory of these frames, all zeros, if they hold the part's tables.
-fn empty_pool(
-    alloc: Global,
-    part: &Part,
-    frames: u64,
-    entries: u64,
-) -> Result<Option<Machine>, NoMemory>
-    requires some { 1 ≤ frames }
-    requires most { frames ≤ most_frames }
-    requires own { 0 < part.now.spaces }
-    requires few { entries ≤ 256 }
-    requires room { entries ≤ part.now.entries }
-    ensures tidy { IfOk result (λ made. IfSome made (λ m. TidyPool m.pool m.mem)) }
-    ensures part { IfOk result (λ made. IfSome made (λ m. m.pool.part ≡ part.now)) }
-{
-    let mem = memory(alloc, frames)?;
-    let spaces = part.spaces();
-    let end = part.host_table() + 1 + spaces * (TABLES_PER_ENTRY * part.entries());
-    if part.host_root() + 4 * (1 + spaces) > frames || end > frames {
-        return Ok(None);
-    }
-    let pool = Pool::new(alloc, part, spaces, entries)?;
-    Ok(Some(Machine { mem, pool }))
-}
+use test_memory::part;
+use test_spaces::{PoolInMemory, empty_pool};
 
 // A pool of two spaces.
-fn two_spaces(alloc: Global) -> Result<Option<Machine>, NoMemory>
+fn two_spaces(alloc: Global) -> Result<Option<PoolInMemory>, NoMemory>
     ensures tidy { IfOk result (λ made. IfSome made (λ m. TidyPool m.pool m.mem)) }
     ensures blocks { IfOk result (λ made. IfSome made (λ m. length m.pool.part.blocks ≡ 2)) }
 {
@@ -72,7 +40,7 @@ const PAGE: Entry = Entry {
 };
 
 // Fills the page into the space of a value that is entered.
-fn fill(machine: &mut Machine, key: Key)
+fn fill(machine: &mut PoolInMemory, key: Key)
     requires tidy { TidyPool machine.old.pool machine.old.mem }
     requires blocks { length machine.old.pool.part.blocks ≡ 2 }
     requires held { HasSpaceFor key (spaces_of machine.old.pool) }
@@ -82,7 +50,7 @@ fn fill(machine: &mut Machine, key: Key)
     machine.pool.fill(&mut machine.mem, key, PAGE);
 }
 
-fn enter(machine: &mut Machine, key: Key)
+fn enter(machine: &mut PoolInMemory, key: Key)
     requires tidy { TidyPool machine.old.pool machine.old.mem }
     requires blocks { length machine.old.pool.part.blocks ≡ 2 }
     ensures tidy { TidyPool machine.new.pool machine.new.mem }
@@ -116,7 +84,7 @@ fn has(pool: &Pool, first: (Key, bool), second: (Key, bool)) -> bool {
 }
 
 // P with its page, then Q and P again; R drops Q, Q drops P, and P is empty when it comes again.
-fn are_in_order(machine: &mut Machine, p: Key, q: Key, r: Key) -> [bool; 4]
+fn are_in_order(machine: &mut PoolInMemory, p: Key, q: Key, r: Key) -> [bool; 4]
     requires tidy { TidyPool machine.old.pool machine.old.mem }
     requires blocks { length machine.old.pool.part.blocks ≡ 2 }
 {
@@ -149,7 +117,7 @@ fn two_spaces_in_order(rt: HostRuntime) -> Result<(), Fail> {
 }
 
 // A fill into a space that is not in front, and a fence that names another VMID, and then its own.
-fn fenced(machine: &mut Machine, p: Key, q: Key) -> [bool; 3]
+fn fenced(machine: &mut PoolInMemory, p: Key, q: Key) -> [bool; 3]
     requires tidy { TidyPool machine.old.pool machine.old.mem }
     requires blocks { length machine.old.pool.part.blocks ≡ 2 }
 {

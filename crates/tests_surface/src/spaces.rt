@@ -3,17 +3,17 @@
 // 8, and the space's from 9 on.
 
 ghost use Rattle.std.specs.Prelude.{◌≡◌, ◌≤◌, ◌<◌, ◌*◌, ◌^◌, length, IfOk, IfSome};
-ghost use Rattle.arch_defs.specs.Frames.{most_frames};
 ghost use Rattle.shadow_space.specs.Shadows.{Tidy};
 
-use arch_defs::{Access, Entry, Part, Shape, TABLES_PER_ENTRY, WalkEnd};
+use arch_defs::{Access, Entry, Shape, WalkEnd};
 use no_memory::NoMemory;
 use phys_mem::PhysMem;
 use shadow_space::Space;
 use stage_walk::walk;
 use std::alloc::Global;
 use std::test::Fail;
-use test_memory::{Words, memory, part};
+use test_memory::{Words, part};
+use test_spaces::{SpaceInMemory, empty_space};
 
 const PAGE: Entry = Entry {
     page: 0x10,
@@ -24,39 +24,8 @@ const PAGE: Entry = Entry {
     level: 0,
 };
 
-// Memory and a space.
-#[derive(Drop)]
-struct Machine {
-    mem: PhysMem,
-    space: Space,
-}
-
-// The space of a part in memory of these frames, all zeros, if they hold the part's tables.
-fn empty_space(
-    alloc: Global,
-    part: &Part,
-    frames: u64,
-    entries: u64,
-) -> Result<Option<Machine>, NoMemory>
-    requires some { 1 ≤ frames }
-    requires most { frames ≤ most_frames }
-    requires own { 0 < part.now.spaces }
-    requires few { entries ≤ 256 }
-    requires room { entries ≤ part.now.entries }
-    ensures tidy { IfOk result (λ made. IfSome made (λ m. Tidy m.space m.mem)) }
-    ensures part { IfOk result (λ made. IfSome made (λ m. m.space.part ≡ part.now)) }
-{
-    let mem = memory(alloc, frames)?;
-    let end = part.host_table() + 1 + part.spaces() * (TABLES_PER_ENTRY * part.entries());
-    if part.host_root() + 4 * (1 + part.spaces()) > frames || end > frames {
-        return Ok(None);
-    }
-    let space = Space::new(part, 0u64, entries);
-    Ok(Some(Machine { mem, space }))
-}
-
 // A space of sixteen entries.
-fn of_sixteen(alloc: Global) -> Result<Option<Machine>, NoMemory>
+fn of_sixteen(alloc: Global) -> Result<Option<SpaceInMemory>, NoMemory>
     ensures tidy { IfOk result (λ made. IfSome made (λ m. Tidy m.space m.mem)) }
     ensures blocks { IfOk result (λ made. IfSome made (λ m. length m.space.part.blocks ≡ 2)) }
 {
@@ -129,7 +98,7 @@ fn differing(mem: &PhysMem, before: &[u64]) -> u64 {
 // Of sixteen pages in spans of their own the oldest goes for one more: whether it has a leaf then, and how
 // many doublewords differ: three of each page's tables, since all share the root's entry.
 fn one_more(alloc: Global) -> Result<Option<(bool, u64)>, NoMemory> {
-    let Some(Machine { mut mem, mut space }) = of_sixteen(alloc)? else {
+    let Some(SpaceInMemory { mut mem, mut space }) = of_sixteen(alloc)? else {
         return Ok(None);
     };
     fill_spans(&mut space, &mut mem, 16);
@@ -146,7 +115,7 @@ fn a_fill_of_one_page_more(rt: HostRuntime) -> Result<(), Fail> {
 
 // Two pages, one of which is cut, and then both are wiped.
 fn cut_and_wiped(alloc: Global) -> Result<Option<[bool; 3]>, NoMemory> {
-    let Some(Machine { mut mem, mut space }) = of_sixteen(alloc)? else {
+    let Some(SpaceInMemory { mut mem, mut space }) = of_sixteen(alloc)? else {
         return Ok(None);
     };
     fill(&mut space, &mut mem, 0x10);
@@ -168,7 +137,7 @@ fn a_cut_and_a_wipe(rt: HostRuntime) -> Result<(), Fail> {
 fn moved(alloc: Global) -> Result<Option<bool>, NoMemory> {
     let before = part(&[5, 3], 0, 8, 1, 16);
     let after = part(&[7, 3], 0, 8, 1, 16);
-    let Some(Machine { mut mem, mut space }) = empty_space(alloc, &before, 57, 16)? else {
+    let Some(SpaceInMemory { mut mem, mut space }) = empty_space(alloc, &before, 57, 16)? else {
         return Ok(None);
     };
     space.fill(&mut mem, PAGE);

@@ -1,6 +1,6 @@
 use Rattle.std.proofs.Common.{arith}
 use Rattle.shadow_pool.proofs.Changing.{all_fenced, none_fenced, one_fenced}
-use Rattle.shadow_pool.proofs.Tidying.{all_folded}
+use Rattle.shadow_pool.proofs.Tidying.{pool_folded}
 use Rattle.shadow_pool.proofs.slots.fence.Goals as goal
 
 pub loop-i-init : goal.loop-i-init
@@ -16,4 +16,4 @@ pub returns-clause-spaces : goal.returns-clause-spaces
 returns-clause-spaces c = all_fenced c.args.fence.now c.args.slots.now c.loop-i.slots c.args.mem.now c.loop-i.mem c.loop-i.i (omega (arith, c.loop-i-test.false)) c.loop-i.invariant.done
 
 pub returns-clause-folded : goal.returns-clause-folded
-returns-clause-folded c = let done = c.loop-i.invariant.done in all_folded c.loop-i.slots c.loop-i.mem done.changed.tidy.tables
+returns-clause-folded c = let done = c.loop-i.invariant.done in pool_folded c.loop-i.slots c.loop-i.mem done.changed.tidy

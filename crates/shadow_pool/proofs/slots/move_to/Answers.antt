@@ -11,17 +11,8 @@ loop-i-preserved c = record {
       c.move_one.new.slot c.move_one.new.mem c.move_one.ensures.slot c.move_one.ensures.only c.move_one.ensures.tidy;
 }
 
-pub returns-clause-pool : goal.returns-clause-pool
-returns-clause-pool c = (has_moved c.args.part.now c.args.slots.now c.args.mem.now c.loop-i.i c.loop-i.slots c.loop-i.mem c.requires.tidy c.requires.part c.names_each_once.ensures c.loop-i.invariant.done (omega (arith, c.loop-i-test.false))).pool
-
-pub returns-clause-spaces : goal.returns-clause-spaces
-returns-clause-spaces c = (has_moved c.args.part.now c.args.slots.now c.args.mem.now c.loop-i.i c.loop-i.slots c.loop-i.mem c.requires.tidy c.requires.part c.names_each_once.ensures c.loop-i.invariant.done (omega (arith, c.loop-i-test.false))).spaces
-
-pub returns-clause-root : goal.returns-clause-root
-returns-clause-root c = (has_moved c.args.part.now c.args.slots.now c.args.mem.now c.loop-i.i c.loop-i.slots c.loop-i.mem c.requires.tidy c.requires.part c.names_each_once.ensures c.loop-i.invariant.done (omega (arith, c.loop-i-test.false))).root
-
-pub returns-clause-tidy : goal.returns-clause-tidy
-returns-clause-tidy c = (has_moved c.args.part.now c.args.slots.now c.args.mem.now c.loop-i.i c.loop-i.slots c.loop-i.mem c.requires.tidy c.requires.part c.names_each_once.ensures c.loop-i.invariant.done (omega (arith, c.loop-i-test.false))).tidy
+pub returns-clause-moved : goal.returns-clause-moved
+returns-clause-moved c = (has_moved c.args.part.now c.args.slots.now c.args.mem.now c.loop-i.i c.loop-i.slots c.loop-i.mem c.requires.tidy c.requires.part c.names_each_once.ensures c.loop-i.invariant.done (omega (arith, c.loop-i-test.false))).moved
 
 pub returns-clause-folded : goal.returns-clause-folded
 returns-clause-folded c = (has_moved c.args.part.now c.args.slots.now c.args.mem.now c.loop-i.i c.loop-i.slots c.loop-i.mem c.requires.tidy c.requires.part c.names_each_once.ensures c.loop-i.invariant.done (omega (arith, c.loop-i-test.false))).folded

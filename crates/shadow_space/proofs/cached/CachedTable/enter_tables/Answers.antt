@@ -17,14 +17,10 @@ overflow_add-slot c =
     let word = passes_word c.args.tables.now c.args.self.now c.args.mem.now c.args.page c.requires.room c.requires.page c.loop-level.self c.loop-level.mem c.loop-level.level (top - c.loop-level.level) c.loop-level.way c.loop-level.invariant c.loop-level.level c.slot_of.result (omega arith) c.loop-level.invariant.stands.levels c.slot_of.ensures.value in
     omega (arith, word.small, word.entry)
 
-pub enter_table-requires-clause-inside : goal.enter_table-requires-clause-inside
-enter_table-requires-clause-inside c =
-    (passes_word c.args.tables.now c.args.self.now c.args.mem.now c.args.page c.requires.room c.requires.page c.loop-level.self c.loop-level.mem c.loop-level.level (top - c.loop-level.level) c.loop-level.way c.loop-level.invariant c.loop-level.level c.slot_of.result (omega arith) c.loop-level.invariant.stands.levels c.slot_of.ensures.value).fits
-
-pub enter_table-requires-clause-small : goal.enter_table-requires-clause-small
-enter_table-requires-clause-small c =
+pub enter_table-requires-clause-doubleword : goal.enter_table-requires-clause-doubleword
+enter_table-requires-clause-doubleword c =
     let word = passes_word c.args.tables.now c.args.self.now c.args.mem.now c.args.page c.requires.room c.requires.page c.loop-level.self c.loop-level.mem c.loop-level.level (top - c.loop-level.level) c.loop-level.way c.loop-level.invariant c.loop-level.level c.slot_of.result (omega arith) c.loop-level.invariant.stands.levels c.slot_of.ensures.value in
-    omega (arith, word.small, word.entry)
+    record { inside = word.fits; small = omega (arith, word.small, word.entry) }
 
 pub enter_table-requires-clause-some : goal.enter_table-requires-clause-some
 enter_table-requires-clause-some c =

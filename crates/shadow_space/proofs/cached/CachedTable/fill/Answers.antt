@@ -1,21 +1,37 @@
-use Rattle.std.proofs.Common.{ap, arith, subst, sym, ◌∙◌, ◌++◌, ◌∷◌, []}
-use Rattle.std.specs.List.{All}
+use Rattle.std.proofs.Common.{ap, arith, length, remove, sym, ◌<◌, ◌∙◌, ◌++◌, ◌∷◌, []}
+use Rattle.std.proofs.lemmas.List.Edits.{length-remove}
 use Rattle.arch_defs.specs.CachedEntries.{HasOtherPage}
 use Rattle.shadow_space.proofs.Dropping.{absent, found_inside, found_page, none_room, others_left}
 use Rattle.shadow_space.proofs.Editing.{all_removed, filled_found, filled_full, filled_room}
+use Rattle.shadow_space.proofs.Putting.{can_put}
 use Rattle.table_words.proofs.Words.{changed_none, changed_then}
 use Rattle.shadow_space.proofs.cached.CachedTable.fill.Goals as goal
 
-pub put-requires-clause-others : goal.put-requires-clause-others
-put-requires-clause-others c =
-    subst (All (λ e. HasOtherPage e c.args.entry)) (sym c.take_out.ensures.entries) (others_left c.args.self.now.entries c.in-Some.i c.args.entry.page c.args.entry (found_inside c.args.self.now.entries c.args.entry.page c.place_of.result c.in-Some.i c.args.entry c.in-Some.is c.place_of.ensures.found) c.requires.holds.pages (found_page c.args.self.now.entries c.args.entry.page c.place_of.result c.in-Some.i c.args.entry c.in-Some.is c.place_of.ensures.found))
+pub put-requires : goal.put-requires
+put-requires c =
+    let inside = found_inside c.args.self.now.entries c.args.entry.page c.place_of.result c.in-Some.i c.args.entry c.in-Some.is c.place_of.ensures.found in
+    let count = length-remove c.args.self.now.entries c.in-Some.i inside in
+    can_put c.args.tables.now c.args.self.now c.take_out.new.self c.args.mem.now c.take_out.new.mem c.args.entry (remove c.args.self.now.entries c.in-Some.i) c.requires.entry c.take_out.ensures.entries
+    (omega (arith, count, c.requires.holds.few))
+    (others_left c.args.self.now.entries c.in-Some.i c.args.entry.page c.args.entry inside c.requires.holds.pages (found_page c.args.self.now.entries c.args.entry.page c.place_of.result c.in-Some.i c.args.entry c.in-Some.is c.place_of.ensures.found))
+    c.take_out.ensures.keeps c.take_out.ensures.holds
 
-pub put-requires-in-None-clause-others : goal.put-requires-in-None-clause-others
-put-requires-in-None-clause-others c = (absent c.args.self.now.entries c.args.entry.page c.place_of.result c.in-None.is c.place_of.ensures.absent)
+pub put-requires-in-None : goal.put-requires-in-None
+put-requires-in-None c = record {
+  holds = c.requires.holds;
+  room = omega (arith, c.len.ensures.value, c.if-len-self.true);
+  entry = c.requires.entry;
+  others = absent c.args.self.now.entries c.args.entry.page c.place_of.result c.in-None.is c.place_of.ensures.absent;
+}
 
-pub put-requires-in-None-2-clause-others : goal.put-requires-in-None-2-clause-others
-put-requires-in-None-2-clause-others c =
-    subst (All (λ e. HasOtherPage e c.args.entry)) (sym c.drop_oldest.ensures.entries) (all_removed (λ e. HasOtherPage e c.args.entry) c.args.self.now.entries 0 (omega (arith, c.len.ensures.value, c.if-len-self.false, c.if-self-gt0.true)) (absent c.args.self.now.entries c.args.entry.page c.place_of.result c.in-None.is c.place_of.ensures.absent))
+pub put-requires-in-None-2 : goal.put-requires-in-None-2
+put-requires-in-None-2 c =
+    let some : 0 < length c.args.self.now.entries = omega (arith, c.len.ensures.value, c.if-len-self.false, c.if-self-gt0.true) in
+    let count = length-remove c.args.self.now.entries 0 some in
+    can_put c.args.tables.now c.args.self.now c.drop_oldest.new.self c.args.mem.now c.drop_oldest.new.mem c.args.entry (remove c.args.self.now.entries 0) c.requires.entry c.drop_oldest.ensures.entries
+    (omega (arith, count, c.requires.holds.few))
+    (all_removed (λ e. HasOtherPage e c.args.entry) c.args.self.now.entries 0 some (absent c.args.self.now.entries c.args.entry.page c.place_of.result c.in-None.is c.place_of.ensures.absent))
+    c.drop_oldest.ensures.keeps c.drop_oldest.ensures.holds
 
 pub returns-in-Some-clause-entries : goal.returns-in-Some-clause-entries
 returns-in-Some-clause-entries c =

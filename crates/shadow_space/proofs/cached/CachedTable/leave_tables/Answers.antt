@@ -17,14 +17,10 @@ overflow_add-slot-in-loop-level c =
     let word = passes_word c.args.tables.now c.args.self.now c.args.mem.now c.args.page c.requires.room c.requires.page c.loop-level.self c.loop-level.mem c.loop-level.level c.loop-level.level c.args.way.now c.loop-level.invariant (c.loop-level.level + 1) c.slot_of.result (omega arith) (omega (arith, c.loop-level-test.true)) c.slot_of.ensures.value in
     omega (arith, word.small, word.entry)
 
-pub leave_table-requires-clause-inside : goal.leave_table-requires-clause-inside
-leave_table-requires-clause-inside c =
-    (passes_word c.args.tables.now c.args.self.now c.args.mem.now c.args.page c.requires.room c.requires.page c.loop-level.self c.loop-level.mem c.loop-level.level c.loop-level.level c.args.way.now c.loop-level.invariant (c.loop-level.level + 1) c.slot_of.result (omega arith) (omega (arith, c.loop-level-test.true)) c.slot_of.ensures.value).fits
-
-pub leave_table-requires-clause-small : goal.leave_table-requires-clause-small
-leave_table-requires-clause-small c =
+pub leave_table-requires-clause-doubleword : goal.leave_table-requires-clause-doubleword
+leave_table-requires-clause-doubleword c =
     let word = passes_word c.args.tables.now c.args.self.now c.args.mem.now c.args.page c.requires.room c.requires.page c.loop-level.self c.loop-level.mem c.loop-level.level c.loop-level.level c.args.way.now c.loop-level.invariant (c.loop-level.level + 1) c.slot_of.result (omega arith) (omega (arith, c.loop-level-test.true)) c.slot_of.ensures.value in
-    omega (arith, word.small, word.entry)
+    record { inside = word.fits; small = omega (arith, word.small, word.entry) }
 
 pub leave_table-requires-clause-counting : goal.leave_table-requires-clause-counting
 leave_table-requires-clause-counting c = passes_counts c.args.tables.now c.args.self.now c.args.mem.now c.args.page c.requires.room c.requires.page c.loop-level.self c.loop-level.mem c.loop-level.level c.loop-level.level c.args.way.now c.loop-level.invariant c.loop-level-test.true

@@ -3,9 +3,8 @@ use Rattle.table_words.proofs.Words.{changed_then}
 use Rattle.shadow_space.proofs.Putting.{entering, has_low, has_put_into}
 use Rattle.shadow_space.proofs.cached.CachedTable.put.Goals as goal
 
-pub enter_tables-way-requires-clause-stands : goal.enter_tables-way-requires-clause-stands
-enter_tables-way-requires-clause-stands c =
-    entering c.args.tables.now c.args.self.now c.args.mem.now c.args.entry c.requires.holds c.requires.room
+pub enter_tables-way-requires : goal.enter_tables-way-requires
+enter_tables-way-requires c = entering c.args.tables.now c.args.self.now c.args.mem.now c.args.entry c.requires
 
 pub overflow_mul-way : goal.overflow_mul-way
 overflow_mul-way c =

@@ -1,8 +1,8 @@
 use Rattle.std.proofs.Common.{ap, ◌∙◌}
 use Rattle.arch_defs.specs.CachedEntries.{cut_by}
 use Rattle.shadow_space.proofs.Dropping.{one_unnamed}
-use Rattle.shadow_space.proofs.Reaching.{kept_folded, kept_zeros}
-use Rattle.shadow_space.proofs.Tidying.{held_by, tidy_kept}
+use Rattle.shadow_space.proofs.Reaching.{kept_folded}
+use Rattle.shadow_space.proofs.Tidying.{held_by}
 use Rattle.shadow_space.proofs.spaces.Space.cut.Goals as goal
 
 pub drop_named-requires : goal.drop_named-requires
@@ -13,11 +13,5 @@ pub returns-clause-entries : goal.returns-clause-entries
 returns-clause-entries c =
     c.drop_named.ensures.entries ∙ one_unnamed c.args.page c.self.inside.table.entries ∙ ap (λ s. cut_by c.args.page s.entries) c.self.view_is
 
-pub returns-clause-tidy : goal.returns-clause-tidy
-returns-clause-tidy c = tidy_kept c.self.inside.index c.self.inside.table c.drop_named.new.self c.args.mem.now c.drop_named.new.mem c.tables_of-tables.result c.self.invariant c.tables_of-tables.ensures.value c.drop_named.ensures.keeps c.drop_named.ensures.holds
-
 pub returns-clause-folded : goal.returns-clause-folded
 returns-clause-folded c = kept_folded c.self.inside.index c.self.inside.table c.drop_named.new.self c.args.mem.now c.drop_named.new.mem c.tables_of-tables.result c.self.invariant c.tables_of-tables.ensures.value c.drop_named.ensures.keeps c.drop_named.ensures.holds
-
-pub returns-clause-zeros : goal.returns-clause-zeros
-returns-clause-zeros c = kept_zeros c.self.inside.index c.self.inside.table c.drop_named.new.self c.args.mem.now c.drop_named.new.mem c.tables_of-tables.result c.self.invariant c.tables_of-tables.ensures.value c.drop_named.ensures.keeps c.drop_named.ensures.holds

@@ -8,7 +8,7 @@ use Rattle.arch_defs.proofs.Rooms.{joined_lie, range_lies}
 use Rattle.shadow_space.specs.Shadows.{AreZeros}
 use Rattle.shadow_space.proofs.Partings.{untouched}
 use Rattle.shadow_space.proofs.Tidying.{tables_end}
-use Rattle.tests_surface.proofs.spaces.empty_space.Goals as goal
+use Rattle.test_spaces.proofs.spaces.empty_space.Goals as goal
 use Rattle.arch_defs.proofs.Images.{length_zeros}
 
 lies : (part : Layout) (frames : ℕ) (memory : List ℕ) → memory ≡ zeros (frames * 4096) → part.first_root + 4 * (1 + part.spaces) ≤ frames

@@ -8,7 +8,7 @@ use Rattle.arch_defs.proofs.Rooms.{joined_lie, range_lies}
 use Rattle.shadow_space.specs.Shadows.{AreZeros}
 use Rattle.shadow_space.proofs.Partings.{untouched}
 use Rattle.shadow_pool.specs.Slots.{Pooled, TidyPool, pool_frames, table_frames_for}
-use Rattle.tests_surface.proofs.pools.empty_pool.Goals as goal
+use Rattle.test_spaces.proofs.pools.empty_pool.Goals as goal
 use Rattle.arch_defs.proofs.Images.{length_zeros}
 
 lies : (part : Layout) (frames : ℕ) → part.first_root + 4 * (1 + part.spaces) ≤ frames → part.first_table + 1 + part.spaces * tables_for part.entries ≤ frames
