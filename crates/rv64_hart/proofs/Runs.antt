@@ -33,6 +33,13 @@ steps_on watch m zero k p q r e h t = let s : k ≡ m = omega arith in rw s (h �
 steps_on watch m (suc n) k p q r e h t = let s : k ≡ suc (m + n) = omega arith in
     rw s (ap (option_and_then (one_more_step watch)) (steps_on watch m n (m + n) p q (hart_steps watch n q) refl h refl) ∙ t)
 
+-- the same to values that are equal to those reached
+pub steps_to : (watch : Bool) (m n : ℕ) (p q : Progress) (s t : HartState) (memory held : List ℕ) (trace sum : ℕ) (ended entered : Bool)
+    → hart_steps watch m p ≡ Some q → hart_steps watch n q ≡ Some (progress s memory trace ended)
+    → t ≡ s → held ≡ memory → sum ≡ trace → entered ≡ ended → hart_steps watch (m + n) p ≡ Some (progress t held sum entered)
+steps_to watch m n p q s t memory held trace sum ended entered before on state kept told enters =
+    rw (state, kept, told, enters) (steps_on watch m n (m + n) p q (Some (progress s memory trace ended)) refl before on)
+
 -- an instruction that is made is a step where no interrupt is due
 pub makes_step : (watch : Bool) (s : HartState) (memory : List ℕ) (trace : ℕ) (after : HartState) (changed : List ℕ) (raised : ℕ)
     → due s.virt.csrs s.virt.mode ≡ None

@@ -1,5 +1,5 @@
 -- Steps by what is told of them.
-use Rattle.std.proofs.Common.{◌≡◌, ℕ, ◌+◌, ◌%◌, ◌^◌, ◌<◌, List, Option, Some, Bool, true, false, refl, arith, ap, ◌∙◌}
+use Rattle.std.proofs.Common.{◌≡◌, ℕ, ◌+◌, ◌%◌, ◌^◌, ◌<◌, List, Some, Bool, true, false, refl, arith, ap, ◌∙◌}
 use Rattle.arch_defs.specs.declared.hart_states.HartState.{HartState}
 use Rattle.op_defs.specs.Table.{is_system}
 use Rattle.machine_defs.specs.declared.events.Event.TheVariants.{System}

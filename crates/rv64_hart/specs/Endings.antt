@@ -1,5 +1,5 @@
 -- What the functions inside a run of the hart answer, in a byte each; a trap is told apart.
-use Rattle.std.specs.Prelude.{ℕ, ◌≡◌, ◌+◌, ◌%◌, ◌^◌, ◌<◌, ◌≤◌, List, Option, Some, None, IfSome, Bool, true, false, ⊤}
+use Rattle.std.specs.Prelude.{ℕ, ◌≡◌, ◌+◌, ◌%◌, ◌^◌, ◌<◌, ◌≤◌, List, Option, Some, None, IfSome, Bool, true, false, ⊤, option_map}
 use Rattle.arch_defs.specs.declared.first.FirstEntry.{FirstEntry}
 use Rattle.arch_defs.specs.declared.hart_states.HartState.{HartState}
 use Rattle.arch_defs.specs.declared.modes.Mode.{Mode}
@@ -14,7 +14,7 @@ use Rattle.op_defs.specs.Table.{op_of}
 use Rattle.machine_defs.specs.declared.events.Event.{Event}
 use Rattle.machine_defs.specs.declared.events.Event.TheVariants as event
 use Rattle.machine_defs.specs.Core.{Located, At, at_place, core, executed, instruction}
-use Rattle.machine_defs.specs.FirstLeaves.{found_by_effect, found_by_op}
+use Rattle.machine_defs.specs.FirstLeaves.{entries_of, found_by_effect, found_by_op}
 use Rattle.machine_defs.specs.Outcomes.{Outcome}
 use Rattle.machine_defs.specs.Runs.{pc_and_word}
 use Rattle.translation_buffer.specs.declared.buffers.Buffer.{Buffer}
@@ -25,9 +25,12 @@ use Rattle.rv64_hart.specs.declared.endings.Ended.{Ended}
 use Rattle.rv64_hart.specs.declared.endings.Ended.TheVariants.{Plain, System, Raised}
 use Rattle.rv64_hart.specs.declared.endings.Round.{Round}
 use Rattle.rv64_hart.specs.declared.endings.StepEnd.{StepEnd}
+use Rattle.rv64_hart.specs.declared.hart_refs.FetchedWord.{FetchedWord}
 use Rattle.rv64_hart.specs.declared.endings.StepEnd.TheVariants.{Continues, Ends, Left}
 use Rattle.rv64_hart.specs.declared.endings.Stretch.{Stretch}
+use Rattle.rv64_hart.specs.declared.hart_refs.HartRef.{HartRef}
 use Rattle.rv64_hart.specs.Counts.{Counts, OnlyTrace}
+use Rattle.rv64_hart.specs.HartRefs.{SameReferences}
 use Rattle.rv64_hart.specs.MachineMemory.{mmu_on}
 use Rattle.rv64_hart.specs.PlainSteps.{plain_steps}
 use Rattle.rv64_hart.specs.Steps.{Attempt, Exits, Makes, Raises, attempt_of, caching, Progress, enters_vs, hart_step, hart_steps, next_attempt, progress, caching_found, with_found_on}
@@ -52,7 +55,10 @@ attempt_of_effect s memory word effect =
     attempt_of (caching_found s (found_by_effect s.tag (mmu_on s memory) s.virt effect)) memory
     (executed (mmu_on s memory) s.virt word effect)
 
--- and where it has found these first-stage translations
+-- and where it has found these first-stage translations: one, or none
+abbrev pub found_by_fetch : FetchedWord → List FirstEntry
+found_by_fetch fetched = entries_of (option_map (λ e. e.now) fetched.found)
+
 abbrev pub attempt_at : List FirstEntry → HartState → List ℕ → ℕ → Attempt
 attempt_at found s memory word =
     let after = caching_found (caching_found s found)
@@ -203,13 +209,14 @@ pub record IsTallied (how : Ended) (old new : Counts) : Type 0 where
 
 -- what a stretch of instructions leaves: the state, memory and trace to which its steps lead; the next step
 -- raises the trap, where one ended the stretch
-pub record LeftByStretch (stretch : Stretch) (trap : Trap) (buffer : Buffer) (tally counted : Counts)
-    (old : HartState) (memory : List ℕ) (new : HartState) (changed : List ℕ) : Type 0 where
-  pub steps : RunsOn stretch.made old memory tally.trace new changed counted.trace
-  pub raises : IfRaised stretch.end
-      (next_attempt new changed (due new.virt.csrs new.virt.mode) ≡ Raises trap)
-  pub only : OnlyTrace tally counted
-  pub serves : ServesHart buffer new changed
+pub record LeftByStretch (stretch : Stretch) (old new : HartRef) : Type 0 where
+  pub steps : RunsOn stretch.made old.state.now old.memory.now old.tally.now.trace
+      new.state.now new.memory.now new.tally.now.trace
+  pub raises : IfRaised stretch.end (next_attempt new.state.now new.memory.now
+      (due new.state.now.virt.csrs new.state.now.virt.mode) ≡ Raises new.trap.now)
+  pub only : OnlyTrace old.tally.now new.tally.now
+  pub serves : ServesHart new.buffer.now new.state.now new.memory.now
+  pub same : SameReferences old new
 
 -- one of common instructions, and where it ended before a word
 pub record LeftByCommon (stretch : CommonStretch) (buffer : Buffer) (tally counted : Counts)
@@ -221,11 +228,11 @@ pub record LeftByCommon (stretch : CommonStretch) (buffer : Buffer) (tally count
   pub context : KeepsContext old.virt new.virt
 
 -- and a stretch with the trap that ends it: where that is not taken into VS, the next step is an exit
-pub record LeftByRound (watch : Bool) (round : Round) (trap : Trap) (buffer : Buffer)
-    (tally counted : Counts) (old : HartState) (memory : List ℕ)
-    (new : HartState) (changed : List ℕ) : Type 0 where
-  pub steps : hart_steps watch round.made (progress old memory tally.trace false)
-      ≡ Some (progress new changed counted.trace (ends_run round.end))
-  pub exits : IfLeft round.end (hart_step new changed ≡ Exits trap)
-  pub only : OnlyTrace tally counted
-  pub serves : ServesHart buffer new changed
+pub record LeftByRound (watch : Bool) (round : Round) (old new : HartRef) : Type 0 where
+  pub steps : hart_steps watch round.made
+      (progress old.state.now old.memory.now old.tally.now.trace false)
+      ≡ Some (progress new.state.now new.memory.now new.tally.now.trace (ends_run round.end))
+  pub exits : IfLeft round.end (hart_step new.state.now new.memory.now ≡ Exits new.trap.now)
+  pub only : OnlyTrace old.tally.now new.tally.now
+  pub serves : ServesHart new.buffer.now new.state.now new.memory.now
+  pub same : SameReferences old new

@@ -1,6 +1,7 @@
 pub mod Counts
 pub mod CsrWords
 pub mod Endings
+pub mod HartRefs
 pub mod Laws
 pub mod Leaves
 pub mod Loans

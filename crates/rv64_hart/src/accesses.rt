@@ -1,6 +1,6 @@
 // The accesses of an instruction of the hart: where each is made, and those to data.
 
-ghost use Rattle.std.specs.Prelude.{◌≡◌, [], option_map, IfNone, IfSome};
+ghost use Rattle.std.specs.Prelude.{◌≡◌, [], option_map, IfSome};
 ghost use Rattle.arch_defs.specs.FirstEntries.{HasGuestFrame};
 ghost use Rattle.arch_defs.specs.Memory.{machine_memory, with_stored};
 ghost use Rattle.arch_defs.specs.Registers.{passed};
@@ -10,14 +10,14 @@ ghost use Rattle.machine_defs.specs.Core.{At, accessed_data, kind_of, storing, w
 ghost use Rattle.machine_defs.specs.FirstLeaves.{entries_of};
 ghost use Rattle.data_access.specs.Places.{IsPlaceFor};
 ghost use Rattle.translation_buffer.specs.Serving.{ServesHart};
-ghost use Rattle.rv64_hart.specs.Endings.{IfMade, IsAnswered, KeepsContext, LeftBy, Unless, attempt_by};
-ghost use Rattle.rv64_hart.specs.Lookups.{LookupTells};
+ghost use Rattle.rv64_hart.specs.Endings.{IfMade, KeepsContext, LeftBy, Unless, attempt_by};
+ghost use Rattle.rv64_hart.specs.Lookups.{LeftByAccess, LookupTells, memory_access_of};
 ghost use Rattle.rv64_hart.specs.MachineMemory.{access_over, found_over, mmu_on, reading_of_memory};
 ghost use Rattle.rv64_hart.specs.Steps.{Makes, attempt_of, caching_found};
 
 use crate::endings::Ended;
 use crate::leaves::cache;
-use crate::walked_accesses::{reach, reach_by};
+use crate::walked_accesses::{MemoryAccess, reach, reach_by};
 use arch_defs::{Access, FirstEntry, HartState, Reg, Trap, Virtual, Width};
 use data_access::{DataAccess, complete, is_aligned, kind_of, load, store};
 use phys_mem::{Mem, PhysMem};
@@ -37,19 +37,17 @@ fn looked_up(
     state: &HartState,
     memory: &PhysMem,
     buffer: &mut Buffer,
-    va: u64,
-    width: Width,
-    access: Access,
+    access: MemoryAccess,
 ) -> Lookup
     requires serves { ServesHart buffer.old state.now memory.now }
-    ensures told { LookupTells state.now memory.now va width access result }
+    ensures told { LookupTells state.now memory.now access.va access.width access.kind result }
     ensures serves { ServesHart buffer.new state.now memory.now }
 {
     memory.is_whole();
-    if !is_aligned(va, width) {
+    if !is_aligned(access.va, access.width) {
         return Lookup::NotPassed;
     }
-    buffer.look_up(memory, state, va, access)
+    buffer.look_up(memory, state, access.va, access.kind)
 }
 
 // Where an access is made that finds nothing, by what is kept alone.
@@ -59,22 +57,21 @@ fn found_place(
     state: &HartState,
     memory: &PhysMem,
     buffer: &Buffer,
-    va: u64,
-    width: Width,
-    access: Access,
+    access: MemoryAccess,
 ) -> Option<u64>
     requires serves { ServesHart buffer.now state.now memory.now }
     ensures located { IfSome result
-        (λ place. access_over memory.now state.now va width access ≡ At place) }
+        (λ place. access_over memory.now state.now access.va access.width access.kind ≡ At place) }
     ensures none { IfSome result
-        (λ place. found_over memory.now state.now va width access ≡ []) }
-    ensures place { IfSome result (λ place. IsPlaceFor (machine_memory memory.now) width place) }
+        (λ place. found_over memory.now state.now access.va access.width access.kind ≡ []) }
+    ensures place { IfSome result
+        (λ place. IsPlaceFor (machine_memory memory.now) access.width place) }
 {
     memory.is_whole();
-    if !is_aligned(va, width) {
+    if !is_aligned(access.va, access.width) {
         return None;
     }
-    match buffer.kept(memory, state, va, access) {
+    match buffer.kept(memory, state, access.va, access.kind) {
         Some(place) => Some(place),
         None => None,
     }
@@ -121,7 +118,12 @@ fn turned(state: &HartState, memory: &PhysMem, buffer: &mut Buffer, pc: u64) -> 
     ensures told { LookupTells state.now memory.now pc Width.Word Access.Fetch result }
     ensures serves { ServesHart buffer.new state.now memory.now }
 {
-    let lookup = looked_up(state, memory, buffer, pc, Width::Word, Access::Fetch);
+    let access = MemoryAccess {
+        va: pc,
+        width: Width::Word,
+        kind: Access::Fetch,
+    };
+    let lookup = looked_up(state, memory, buffer, access);
     buffer.turn(pc);
     lookup
 }
@@ -134,53 +136,36 @@ fn access_place(
     state: &mut HartState,
     memory: &PhysMem,
     buffer: &mut Buffer,
-    va: u64,
-    width: Width,
-    access: Access,
+    access: MemoryAccess,
     trap: &mut Trap,
 ) -> Option<u64>
     requires serves { ServesHart buffer.old state.old memory.now }
-    ensures located { IsAnswered state.old memory.now
-        (access_over memory.now state.old va width access) trap.new result }
-    ensures found { IfSome result (λ place. state.new
-        ≡ caching_found state.old (found_over memory.now state.old va width access)) }
-    ensures stays { IfNone result (state.new ≡ state.old) }
-    ensures place { IfSome result (λ place. IsPlaceFor (machine_memory memory.now) width place) }
-    ensures serves { ServesHart buffer.new state.new memory.now }
+    ensures { LeftByAccess access result trap.new buffer.new state.old memory.now state.new }
 {
-    let lookup = looked_up(state, memory, buffer, va, width, access);
+    let lookup = looked_up(state, memory, buffer, access);
     match lookup.place() {
         Some(place) => Some(place),
-        None => place_anew(state, memory, buffer, va, width, access, lookup, trap),
+        None => place_anew(state, memory, buffer, access, lookup, trap),
     }
 }
 
 // The same where what was looked up is not a place.
 #[cold]
 #[inline(never)]
-#[tactic(auto, using(crate::proofs::Places::found, crate::proofs::Places::failed))]
 fn place_anew(
     state: &mut HartState,
     memory: &PhysMem,
     buffer: &mut Buffer,
-    va: u64,
-    width: Width,
-    access: Access,
+    access: MemoryAccess,
     lookup: Lookup,
     trap: &mut Trap,
 ) -> Option<u64>
     requires serves { ServesHart buffer.old state.old memory.now }
-    requires told { LookupTells state.old memory.now va width access lookup }
-    ensures located { IsAnswered state.old memory.now
-        (access_over memory.now state.old va width access) trap.new result }
-    ensures found { IfSome result (λ place. state.new
-        ≡ caching_found state.old (found_over memory.now state.old va width access)) }
-    ensures stays { IfNone result (state.new ≡ state.old) }
-    ensures place { IfSome result (λ place. IsPlaceFor (machine_memory memory.now) width place) }
-    ensures serves { ServesHart buffer.new state.new memory.now }
+    requires told { LookupTells state.old memory.now access.va access.width access.kind lookup }
+    ensures { LeftByAccess access result trap.new buffer.new state.old memory.now state.new }
 {
     let mut entry = None;
-    match reach_by(state, memory, va, width, access, lookup, trap, &mut entry) {
+    match reach_by(state, memory, access, lookup, trap, &mut entry) {
         Some(place) => {
             cache(&mut state.virt.first, buffer, entry.as_ref());
             Some(place)
@@ -205,16 +190,8 @@ pub fn access_data(
         ≡ attempt_by result trap.new event state.new memory.new }
     ensures left { LeftBy result buffer.new state.old memory.old state.new memory.new }
 {
-    let access = kind_of(wanted.purpose);
-    match access_place(
-        state,
-        memory,
-        buffer,
-        wanted.address,
-        wanted.width,
-        access,
-        trap,
-    ) {
+    let access = memory_access_of(&wanted);
+    match access_place(state, memory, buffer, access, trap) {
         Some(at) => {
             buffer.open(at);
             complete(memory, &mut state.virt, wanted.width, wanted.purpose, at);
@@ -243,15 +220,14 @@ pub fn access_data_anew(
         ≡ attempt_by result trap.new event state.new memory.new }
     ensures left { LeftBy result buffer.new state.old memory.old state.new memory.new }
 {
-    let access = kind_of(wanted.purpose);
-    let (address, width) = (wanted.address, wanted.width);
+    let access = memory_access_of(&wanted);
     let mut entry = None;
-    match reach(state, memory, address, width, access, trap, &mut entry) {
+    match reach(state, memory, access, trap, &mut entry) {
         Some(at) => {
             cache(&mut state.virt.first, buffer, found);
             cache(&mut state.virt.first, buffer, entry.as_ref());
             buffer.open(at);
-            complete(memory, &mut state.virt, width, wanted.purpose, at);
+            complete(memory, &mut state.virt, wanted.width, wanted.purpose, at);
             Ended::Plain
         }
         None => Ended::Raised,
@@ -313,7 +289,12 @@ fn load_sized(
     ensures serves { ServesHart buffer.now state.new memory.now }
     ensures context { KeepsContext state.old.virt state.new.virt }
 {
-    match found_place(state, memory, buffer, at, width, Access::Load) {
+    let access = MemoryAccess {
+        va: at,
+        width,
+        kind: Access::Load,
+    };
+    match found_place(state, memory, buffer, access) {
         Some(place) => {
             load(memory, &mut state.virt, width, signed, rd, place);
             true
@@ -371,7 +352,12 @@ fn store_sized(
     ensures serves { ServesHart buffer.now state.new memory.new }
     ensures context { KeepsContext state.old.virt state.new.virt }
 {
-    match found_place(state, memory, buffer, address, width, Access::Store) {
+    let access = MemoryAccess {
+        va: address,
+        width,
+        kind: Access::Store,
+    };
+    match found_place(state, memory, buffer, access) {
         Some(place) => {
             if buffer.has_read(place) {
                 return false;
@@ -403,7 +389,12 @@ pub fn load_anew(
         ≡ attempt_by result trap.new event state.new memory.now }
     ensures left { LeftBy result buffer.new state.old memory.now state.new memory.now }
 {
-    match access_place(state, memory, buffer, at, width, Access::Load, trap) {
+    let access = MemoryAccess {
+        va: at,
+        width,
+        kind: Access::Load,
+    };
+    match access_place(state, memory, buffer, access, trap) {
         Some(place) => {
             load(memory, &mut state.virt, width, signed, rd, place);
             Ended::Plain
@@ -431,13 +422,29 @@ pub fn store_anew(
         ≡ attempt_by result trap.new event state.new memory.new }
     ensures left { LeftBy result buffer.new state.old memory.old state.new memory.new }
 {
-    match access_place(state, memory, buffer, address, width, Access::Store, trap) {
+    let access = MemoryAccess {
+        va: address,
+        width,
+        kind: Access::Store,
+    };
+    match access_place(state, memory, buffer, access, trap) {
         Some(place) => {
             buffer.open(place);
             store(memory, &mut state.virt, width, value, place);
             Ended::Plain
         }
         None => Ended::Raised,
+    }
+}
+
+/// An access to data, as one to memory.
+pub fn memory_access_of(wanted: &DataAccess) -> MemoryAccess
+    ensures { result ≡ memory_access_of wanted.now }
+{
+    MemoryAccess {
+        va: wanted.address,
+        width: wanted.width,
+        kind: kind_of(wanted.purpose),
     }
 }
 

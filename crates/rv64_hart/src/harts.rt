@@ -10,6 +10,7 @@ ghost use Rattle.rv64_hart.specs.PlainSteps.{plain_steps};
 ghost use Rattle.rv64_hart.specs.Steps.{hart_steps, progress, is_vs_trap, IsWhy};
 
 use crate::endings::StepEnd;
+use crate::hart_refs::HartRef;
 use crate::plain_steps::plain_steps;
 use crate::steps::round;
 use crate::tallies::Tally;
@@ -131,7 +132,7 @@ impl Hart {
 
 // The steps of a run, which the tally gets.
 #[inline(never)]
-#[tactic(auto, using(crate::proofs::Runs::steps_none, crate::proofs::Runs::steps_on))]
+#[tactic(auto, using(crate::proofs::Runs::steps_none))]
 fn steps(
     state: &mut HartState,
     memory: &mut PhysMem,
@@ -154,9 +155,16 @@ fn steps(
     let mut taken = 0;
     while taken < limit {
         let most = limit - taken;
-        let round = round(
-            state, memory, buffer, most, watch, &mut quiet, tally, &mut trap,
-        );
+        let round = {
+            let mut hart = HartRef {
+                state: &mut *state,
+                memory: &mut *memory,
+                buffer: &mut *buffer,
+                tally: &mut *tally,
+                trap: &mut trap,
+            };
+            round(&mut hart, most, watch, &mut quiet)
+        };
         taken += round.made;
         match round.end {
             StepEnd::Continues => {}

@@ -11,11 +11,11 @@ ghost use Rattle.rv64_hart.specs.Leaves.{AreNone, LeavesFit, leaves_list};
 ghost use Rattle.rv64_hart.specs.MachineMemory.{found_by_wanted, found_on, wanted_next};
 ghost use Rattle.rv64_hart.specs.Steps.{found_at_exit};
 
-use crate::accesses::word_at;
-use crate::walked_accesses::reach;
+use crate::accesses::{memory_access_of, word_at};
+use crate::walked_accesses::{MemoryAccess, reach};
 use crate::wanted_accesses::{wanted_at, wanted_of};
 use arch_defs::{Access, FirstBuffer, FirstEntry, HartState, Trap, Width};
-use data_access::{DataAccess, kind_of};
+use data_access::DataAccess;
 use phys_mem::PhysMem;
 use translation_buffer::Buffer;
 use trap_delegation::pending;
@@ -97,10 +97,9 @@ fn find_wanted(
 {
     match *wanted {
         Some(wanted) => {
-            let (at, width) = (wanted.address, wanted.width);
-            let access = kind_of(wanted.purpose);
+            let access = memory_access_of(&wanted);
             let mut trap = Trap::of_interrupt(0);
-            let _ = reach(state, memory, at, width, access, &mut trap, entry);
+            let _ = reach(state, memory, access, &mut trap, entry);
         }
         None => {}
     }
@@ -115,17 +114,13 @@ fn next_instruction(state: &HartState, memory: &PhysMem, found: &mut Leaves) -> 
     ensures wanted { result ≡ wanted_next state.now memory.now }
 {
     let pc = state.virt.regs.pc;
-    let (width, access) = (Width::Word, Access::Fetch);
+    let access = MemoryAccess {
+        va: pc,
+        width: Width::Word,
+        kind: Access::Fetch,
+    };
     let mut trap = Trap::of_interrupt(0);
-    match reach(
-        state,
-        memory,
-        pc,
-        width,
-        access,
-        &mut trap,
-        &mut found.at_pc,
-    ) {
+    match reach(state, memory, access, &mut trap, &mut found.at_pc) {
         Some(place) => {
             let wanted = wanted_of(&state.virt, word_at(memory, place));
             find_wanted(state, memory, &wanted, &mut found.of_data);

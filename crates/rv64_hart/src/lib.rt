@@ -5,6 +5,7 @@
 mod accesses;
 mod common_instructions;
 mod endings;
+mod hart_refs;
 mod harts;
 mod laws;
 mod leaves;

@@ -6,11 +6,11 @@ ghost use Rattle.instruction_laws.specs.MissedPlaces.{wanted_of};
 ghost use Rattle.rv64_hart.specs.MachineMemory.{mmu_on, wanted_next};
 ghost use Rattle.rv64_hart.specs.NextAccesses.{access_on, placed_access, word_on};
 
-use crate::accesses::word_at;
-use crate::walked_accesses::reach;
+use crate::accesses::{memory_access_of, word_at};
+use crate::walked_accesses::{MemoryAccess, reach};
 use crate::wanted_accesses::wanted_of;
 use arch_defs::{Access, HartState, Trap, Virtual, Width};
-use data_access::{DataAccess, kind_of};
+use data_access::DataAccess;
 use phys_mem::PhysMem;
 
 /// The word at pc, by the hart's own fetch as memory is, in this state. None where the fetch has no place.
@@ -19,9 +19,13 @@ pub fn word_at_pc(state: &HartState, memory: &PhysMem) -> Option<u32>
     ensures { result ≡ word_on state.now memory.now }
 {
     let pc = state.virt.regs.pc;
-    let (width, access) = (Width::Word, Access::Fetch);
+    let access = MemoryAccess {
+        va: pc,
+        width: Width::Word,
+        kind: Access::Fetch,
+    };
     let (mut trap, mut entry) = (Trap::of_interrupt(0), None);
-    match reach(state, memory, pc, width, access, &mut trap, &mut entry) {
+    match reach(state, memory, access, &mut trap, &mut entry) {
         Some(place) => Some(word_at(memory, place)),
         None => None,
     }
@@ -47,10 +51,9 @@ fn placed_access(
     ensures { result ≡ placed_access (mmu_on state.now memory.now) state.now.virt wanted }
 {
     let wanted = wanted?;
-    let (at, width) = (wanted.address, wanted.width);
-    let access = kind_of(wanted.purpose);
+    let access = memory_access_of(&wanted);
     let (mut trap, mut entry) = (Trap::of_interrupt(0), None);
-    match reach(state, memory, at, width, access, &mut trap, &mut entry) {
+    match reach(state, memory, access, &mut trap, &mut entry) {
         Some(place) => Some((wanted, place)),
         None => None,
     }

@@ -18,12 +18,13 @@ ghost use Rattle.arch_defs.specs.Registers.{next};
 ghost use Rattle.machine_defs.specs.Privileges.{privileged};
 ghost use Rattle.translation_buffer.specs.Serving.{Serves, ServesHart};
 ghost use Rattle.rv64_hart.specs.CsrWords.{csr_asked, csr_source};
-ghost use Rattle.rv64_hart.specs.Endings.{HasSameTranslation, LeftBy, Unless, attempt_at, attempt_by, attempt_with};
+ghost use Rattle.rv64_hart.specs.Endings.{HasSameTranslation, LeftBy, Unless, attempt_at, attempt_by, attempt_with, found_by_fetch};
 ghost use Rattle.rv64_hart.specs.MachineMemory.{found_over, mmu_on};
 ghost use Rattle.rv64_hart.specs.Steps.{Raises, attempt_of, caching, caching_found};
 
 use crate::accesses::{access_data, access_data_anew};
 use crate::endings::{Ended, raise};
+use crate::hart_refs::FetchedWord;
 use crate::leaves::cache;
 use arch_defs::{
     ECALL_FROM_HS, ECALL_FROM_USER, ECALL_FROM_VS, Fence, FirstEntry, HartState,
@@ -44,23 +45,22 @@ pub(crate) fn rare(
     state: &mut HartState,
     memory: &mut PhysMem,
     buffer: &mut Buffer,
-    word: u32,
-    found: Option<&FirstEntry>,
+    fetched: FetchedWord<'_>,
     trap: &mut Trap,
 ) -> Ended
     requires serves { ServesHart buffer.old state.old memory.old }
-    requires fits { IfSome found (λ e. HasGuestFrame e.now) }
-    ensures ends { attempt_at
-        (entries_of (option_map (λ e. e.now) found.entry)) state.old memory.old word
-        ≡ attempt_by result trap.new (event_of state.old.virt.regs.pc word) state.new memory.new }
+    requires fits { IfSome fetched.found (λ e. HasGuestFrame e.now) }
+    ensures ends { attempt_at (found_by_fetch fetched.entry) state.old memory.old fetched.entry.word
+        ≡ attempt_by result trap.new (event_of state.old.virt.regs.pc fetched.entry.word)
+        state.new memory.new }
     ensures left { LeftBy result buffer.new state.old memory.old state.new memory.new }
 {
-    if word == 0x0000_0073 {
+    if fetched.word == 0x0000_0073 {
         call(state.virt.mode, trap)
-    } else if is_system(word) {
-        system(state, memory, buffer, word, found, trap)
+    } else if is_system(fetched.word) {
+        system(state, memory, buffer, fetched, trap)
     } else {
-        other(state, memory, buffer, word, found, trap)
+        other(state, memory, buffer, fetched, trap)
     }
 }
 
@@ -70,22 +70,21 @@ fn system(
     state: &mut HartState,
     memory: &mut PhysMem,
     buffer: &mut Buffer,
-    word: u32,
-    found: Option<&FirstEntry>,
+    fetched: FetchedWord<'_>,
     trap: &mut Trap,
 ) -> Ended
-    requires system { is_system word ≡ true }
+    requires system { is_system fetched.word ≡ true }
     requires serves { ServesHart buffer.old state.old memory.old }
-    requires fits { IfSome found (λ e. HasGuestFrame e.now) }
-    ensures ends { attempt_at
-        (entries_of (option_map (λ e. e.now) found.entry)) state.old memory.old word
-        ≡ attempt_by result trap.new (event_of state.old.virt.regs.pc word) state.new memory.new }
+    requires fits { IfSome fetched.found (λ e. HasGuestFrame e.now) }
+    ensures ends { attempt_at (found_by_fetch fetched.entry) state.old memory.old fetched.entry.word
+        ≡ attempt_by result trap.new (event_of state.old.virt.regs.pc fetched.entry.word)
+        state.new memory.new }
     ensures left { LeftBy result buffer.new state.old memory.old state.new memory.new }
 {
-    if word / 4096 % 4 != 0 {
-        register(state, memory, buffer, word, found, trap)
+    if fetched.word / 4096 % 4 != 0 {
+        register(state, memory, buffer, fetched, trap)
     } else {
-        without_register(state, memory, buffer, word, found, trap)
+        without_register(state, memory, buffer, fetched, trap)
     }
 }
 
@@ -95,21 +94,25 @@ fn without_register(
     state: &mut HartState,
     memory: &mut PhysMem,
     buffer: &mut Buffer,
-    word: u32,
-    found: Option<&FirstEntry>,
+    fetched: FetchedWord<'_>,
     trap: &mut Trap,
 ) -> Ended
-    requires system { is_system word ≡ true }
+    requires system { is_system fetched.word ≡ true }
     requires serves { ServesHart buffer.old state.old memory.old }
-    requires fits { IfSome found (λ e. HasGuestFrame e.now) }
-    ensures ends { attempt_at
-        (entries_of (option_map (λ e. e.now) found.entry)) state.old memory.old word
-        ≡ attempt_by result trap.new (event_of state.old.virt.regs.pc word) state.new memory.new }
+    requires fits { IfSome fetched.found (λ e. HasGuestFrame e.now) }
+    ensures ends { attempt_at (found_by_fetch fetched.entry) state.old memory.old fetched.entry.word
+        ≡ attempt_by result trap.new (event_of state.old.virt.regs.pc fetched.entry.word)
+        state.new memory.new }
     ensures left { LeftBy result buffer.new state.old memory.old state.new memory.new }
 {
-    match decode_system(word) {
-        Some(op) => decided(state, memory, buffer, word, &op, found, trap),
-        None => raise(state.virt.mode, ILLEGAL_INSTRUCTION, word as u64, trap),
+    match decode_system(fetched.word) {
+        Some(op) => decided(state, memory, buffer, fetched, &op, trap),
+        None => raise(
+            state.virt.mode,
+            ILLEGAL_INSTRUCTION,
+            fetched.word as u64,
+            trap,
+        ),
     }
 }
 
@@ -119,20 +122,24 @@ fn other(
     state: &mut HartState,
     memory: &mut PhysMem,
     buffer: &mut Buffer,
-    word: u32,
-    found: Option<&FirstEntry>,
+    fetched: FetchedWord<'_>,
     trap: &mut Trap,
 ) -> Ended
     requires serves { ServesHart buffer.old state.old memory.old }
-    requires fits { IfSome found (λ e. HasGuestFrame e.now) }
-    ensures ends { attempt_at
-        (entries_of (option_map (λ e. e.now) found.entry)) state.old memory.old word
-        ≡ attempt_by result trap.new (event_of state.old.virt.regs.pc word) state.new memory.new }
+    requires fits { IfSome fetched.found (λ e. HasGuestFrame e.now) }
+    ensures ends { attempt_at (found_by_fetch fetched.entry) state.old memory.old fetched.entry.word
+        ≡ attempt_by result trap.new (event_of state.old.virt.regs.pc fetched.entry.word)
+        state.new memory.new }
     ensures left { LeftBy result buffer.new state.old memory.old state.new memory.new }
 {
-    match decode(word) {
-        Some(op) => asked(state, memory, buffer, word, &op, found, trap),
-        None => raise(state.virt.mode, ILLEGAL_INSTRUCTION, word as u64, trap),
+    match decode(fetched.word) {
+        Some(op) => asked(state, memory, buffer, fetched, &op, trap),
+        None => raise(
+            state.virt.mode,
+            ILLEGAL_INSTRUCTION,
+            fetched.word as u64,
+            trap,
+        ),
     }
 }
 
@@ -175,19 +182,19 @@ fn register(
     state: &mut HartState,
     memory: &PhysMem,
     buffer: &mut Buffer,
-    word: u32,
-    found: Option<&FirstEntry>,
+    fetched: FetchedWord<'_>,
     trap: &mut Trap,
 ) -> Ended
     requires serves { ServesHart buffer.old state.old memory.now }
-    requires fits { IfSome found (λ e. HasGuestFrame e.now) }
+    requires fits { IfSome fetched.found (λ e. HasGuestFrame e.now) }
     ensures ends { (made : Event) → attempt_of
-        (caching_found state.old (entries_of (option_map (λ e. e.now) found.entry))) memory.now
-        (csr_asked state.old.virt word) ≡ attempt_by result trap.new made state.new memory.now }
+        (caching_found state.old (found_by_fetch fetched.entry)) memory.now
+        (csr_asked state.old.virt fetched.entry.word)
+        ≡ attempt_by result trap.new made state.new memory.now }
     ensures left { LeftBy result buffer.new state.old memory.now state.new memory.now }
 {
-    let (op, source) = (csr_op(word), csr_source(word));
-    let number = csr_number(word);
+    let (op, source) = (csr_op(fetched.word), csr_source(fetched.word));
+    let number = csr_number(fetched.word);
     let operand = operand_of(&source, &state.virt.regs);
     let wrote = writes(op, &source);
     match access_csr(
@@ -196,13 +203,18 @@ fn register(
         number,
         operand,
         wrote,
-        Reg::at(word, 7),
+        Reg::at(fetched.word, 7),
     ) {
         Ok(()) => {
-            settle_access(state, buffer, changes_context(wrote, number), found);
+            settle_access(state, buffer, changes_context(wrote, number), fetched.found);
             Ended::System
         }
-        Err(end) => raise(state.virt.mode, refusal_code(end), word as u64, trap),
+        Err(end) => raise(
+            state.virt.mode,
+            refusal_code(end),
+            fetched.word as u64,
+            trap,
+        ),
     }
 }
 
@@ -212,21 +224,26 @@ fn decided(
     state: &mut HartState,
     memory: &mut PhysMem,
     buffer: &mut Buffer,
-    word: u32,
+    fetched: FetchedWord<'_>,
     op: &Op,
-    found: Option<&FirstEntry>,
     trap: &mut Trap,
 ) -> Ended
     requires serves { ServesHart buffer.old state.old memory.old }
-    requires fits { IfSome found (λ e. HasGuestFrame e.now) }
-    ensures ends { attempt_with (entries_of (option_map (λ e. e.now) found.entry)) state.old memory.old word
+    requires fits { IfSome fetched.found (λ e. HasGuestFrame e.now) }
+    ensures ends { attempt_with (found_by_fetch fetched.entry) state.old memory.old fetched.entry.word
         (meaning op.now state.old.virt.regs)
-        ≡ attempt_by result trap.new (event_of state.old.virt.regs.pc word) state.new memory.new }
+        ≡ attempt_by result trap.new (event_of state.old.virt.regs.pc fetched.entry.word)
+        state.new memory.new }
     ensures left { LeftBy result buffer.new state.old memory.old state.new memory.new }
 {
     match refusal_of(op, &state.virt.csrs.hstatus, state.virt.mode) {
-        Some(end) => raise(state.virt.mode, refusal_code(end), word as u64, trap),
-        None => asked(state, memory, buffer, word, op, found, trap),
+        Some(end) => raise(
+            state.virt.mode,
+            refusal_code(end),
+            fetched.word as u64,
+            trap,
+        ),
+        None => asked(state, memory, buffer, fetched, op, trap),
     }
 }
 
@@ -236,20 +253,20 @@ fn asked(
     state: &mut HartState,
     memory: &mut PhysMem,
     buffer: &mut Buffer,
-    word: u32,
+    fetched: FetchedWord<'_>,
     op: &Op,
-    found: Option<&FirstEntry>,
     trap: &mut Trap,
 ) -> Ended
     requires serves { ServesHart buffer.old state.old memory.old }
-    requires fits { IfSome found (λ e. HasGuestFrame e.now) }
-    ensures ends { attempt_with (entries_of (option_map (λ e. e.now) found.entry)) state.old memory.old word
+    requires fits { IfSome fetched.found (λ e. HasGuestFrame e.now) }
+    ensures ends { attempt_with (found_by_fetch fetched.entry) state.old memory.old fetched.entry.word
         (meaning op.now state.old.virt.regs)
-        ≡ attempt_by result trap.new (event_of state.old.virt.regs.pc word) state.new memory.new }
+        ≡ attempt_by result trap.new (event_of state.old.virt.regs.pc fetched.entry.word)
+        state.new memory.new }
     ensures left { LeftBy result buffer.new state.old memory.old state.new memory.new }
 {
     let effect = effect_of(op, &state.virt.regs);
-    apply(state, memory, buffer, word, effect, found, trap)
+    apply(state, memory, buffer, fetched, effect, trap)
 }
 
 // Does what an instruction asks for.
@@ -258,35 +275,31 @@ fn apply(
     state: &mut HartState,
     memory: &mut PhysMem,
     buffer: &mut Buffer,
-    word: u32,
+    fetched: FetchedWord<'_>,
     effect: Effect,
-    found: Option<&FirstEntry>,
     trap: &mut Trap,
 ) -> Ended
     requires serves { ServesHart buffer.old state.old memory.old }
-    requires fits { IfSome found (λ e. HasGuestFrame e.now) }
-    ensures ends { attempt_with
-        (entries_of (option_map (λ e. e.now) found.entry)) state.old memory.old word effect
-        ≡ attempt_by result trap.new (event_of state.old.virt.regs.pc word) state.new memory.new }
+    requires fits { IfSome fetched.found (λ e. HasGuestFrame e.now) }
+    ensures ends { attempt_with (found_by_fetch fetched.entry) state.old memory.old fetched.entry.word effect
+        ≡ attempt_by result trap.new (event_of state.old.virt.regs.pc fetched.entry.word)
+        state.new memory.new }
     ensures left { LeftBy result buffer.new state.old memory.old state.new memory.new }
 {
     match effect {
         Effect::Sets { rd, value, next } => {
-            cache(&mut state.virt.first, buffer, found);
+            cache(&mut state.virt.first, buffer, fetched.found);
             state.virt.regs.advance(rd, value, next);
             Ended::Plain
         }
         Effect::Raises { cause, tval } => raise(state.virt.mode, cause, tval, trap),
-        Effect::Data(wanted) => data(state, memory, buffer, wanted, found, trap),
+        Effect::Data(wanted) => data(state, memory, buffer, wanted, fetched.found, trap),
         Effect::Calls => call(state.virt.mode, trap),
-        Effect::Privileged(effect) => {
-            privileged(state, memory, buffer, word, effect, found, trap)
-        }
+        Effect::Privileged(effect) => { privileged(state, memory, buffer, fetched, effect, trap) }
     }
 }
 
 // An access to data, by kept translations where nothing has been found before.
-#[tactic(auto, unfolding(arch_defs::specs::FirstEntries::all_filled))]
 fn data(
     state: &mut HartState,
     memory: &mut PhysMem,
@@ -331,39 +344,43 @@ fn privileged(
     state: &mut HartState,
     memory: &PhysMem,
     buffer: &mut Buffer,
-    word: u32,
+    fetched: FetchedWord<'_>,
     effect: Privileged,
-    found: Option<&FirstEntry>,
     trap: &mut Trap,
 ) -> Ended
     requires serves { ServesHart buffer.old state.old memory.now }
-    requires fits { IfSome found (λ e. HasGuestFrame e.now) }
+    requires fits { IfSome fetched.found (λ e. HasGuestFrame e.now) }
     ensures ends { (made : Event) → attempt_of
-        (caching_found state.old (entries_of (option_map (λ e. e.now) found.entry))) memory.now
-        (privileged state.old.virt word effect)
+        (caching_found state.old (found_by_fetch fetched.entry)) memory.now
+        (privileged state.old.virt fetched.entry.word effect)
         ≡ attempt_by result trap.new made state.new memory.now }
     ensures left { LeftBy result buffer.new state.old memory.now state.new memory.now }
 {
     match perform(&mut state.virt, effect) {
         Performed::Done => {
-            settle(state, buffer, found);
+            settle(state, buffer, fetched.found);
             Ended::System
         }
         Performed::Waits => {
-            settle(state, buffer, found);
+            settle(state, buffer, fetched.found);
             Ended::System
         }
         Performed::Fenced(_) => {
-            settle(state, buffer, found);
+            settle(state, buffer, fetched.found);
             Ended::System
         }
         Performed::FirstFenced(named, fence) => {
-            cache(&mut state.virt.first, buffer, found);
+            cache(&mut state.virt.first, buffer, fetched.found);
             fence_first(state, buffer, named, &fence);
             Ended::System
         }
         Performed::Accesses(_) => raise(state.virt.mode, ILLEGAL_INSTRUCTION, 0, trap),
-        Performed::Refused(end) => raise(state.virt.mode, refusal_code(end), word as u64, trap),
+        Performed::Refused(end) => raise(
+            state.virt.mode,
+            refusal_code(end),
+            fetched.word as u64,
+            trap,
+        ),
     }
 }
 

@@ -10,6 +10,7 @@ ghost use Rattle.machine_defs.specs.Core.{core, event_of};
 ghost use Rattle.machine_defs.specs.FirstLeaves.{entries_of};
 ghost use Rattle.translation_buffer.specs.Serving.{ServesHart};
 ghost use Rattle.rv64_hart.specs.Endings.{HasMade, IfLeft, IfPlain, IsCommonStretch, IsNext, IsStretch, IsTallied, KeepsContext, LeftBy, LeftByCommon, LeftByRound, LeftByStretch, NoneDueIfQuiet, attempt_at, attempt_by, attempt_of_effect, attempt_of_word, counted_of, is_plain_end, one_of, told_by, told_of};
+ghost use Rattle.rv64_hart.specs.HartRefs.{SameReferences};
 ghost use Rattle.rv64_hart.specs.Lookups.{LookupTells};
 ghost use Rattle.rv64_hart.specs.MachineMemory.{mmu_on};
 ghost use Rattle.rv64_hart.specs.Steps.{Exits, Raises, attempt_of, found_at_exit, hart_step, next_attempt, one_more_step, progress, progressed, trapped_to, caching_found, with_found_on};
@@ -17,11 +18,12 @@ ghost use Rattle.rv64_hart.specs.Steps.{Exits, Raises, attempt_of, found_at_exit
 use crate::accesses::{fetch_lookup, last_place, load_anew, store_anew, word_at};
 use crate::common_instructions::common;
 use crate::endings::{CommonStretch, Ended, Round, StepEnd, Stretch, raise_interrupt};
+use crate::hart_refs::{FetchedWord, HartRef};
 use crate::leaves::{cache, found_at_exit};
 use crate::rare_instructions::{follow, is_system, rare};
 use crate::tallies::Tally;
-use crate::walked_accesses::reach_by;
-use arch_defs::{Access, FirstEntry, HartState, Level, Trap, Virtual, Width};
+use crate::walked_accesses::{MemoryAccess, reach_by};
+use arch_defs::{Access, HartState, Level, Trap, Virtual, Width};
 use op_defs::Op;
 use op_effects::address_at;
 use phys_mem::PhysMem;
@@ -32,25 +34,15 @@ use trap_delegation::{enter_vs, pending, target};
 /// Makes steps up to a number: a stretch of common instructions and what ends it, or a trap.
 #[inline(always)]
 #[tactic(auto, using(crate::proofs::Runs::steps_on, crate::proofs::Runs::steps_more))]
-pub fn round(
-    state: &mut HartState,
-    memory: &mut PhysMem,
-    buffer: &mut Buffer,
-    most: u64,
-    watch: bool,
-    quiet: &mut bool,
-    tally: &mut Tally,
-    trap: &mut Trap,
-) -> Round
-    requires serves { ServesHart buffer.old state.old memory.old }
-    requires quiet { NoneDueIfQuiet quiet.old state.old.virt }
+pub fn round(hart: &mut HartRef<'_>, most: u64, watch: bool, quiet: &mut bool) -> Round
+    requires serves { ServesHart hart.old.buffer.now hart.old.state.now hart.old.memory.now }
+    requires quiet { NoneDueIfQuiet quiet.old hart.old.state.now.virt }
     requires some { 0 < most }
-    ensures run { LeftByRound watch result trap.new buffer.new tally.old tally.new
-        state.old memory.old state.new memory.new }
+    ensures run { LeftByRound watch result hart.old hart.new }
     ensures made { HasMade most result.made result.end }
-    ensures quiet { NoneDueIfQuiet quiet.new state.new.virt }
+    ensures quiet { NoneDueIfQuiet quiet.new hart.new.state.now.virt }
 {
-    let stretch = attempts(state, memory, buffer, most, quiet, tally, trap);
+    let stretch = attempts(hart, most, quiet);
     let made = stretch.made;
     match stretch.end {
         Ended::Plain | Ended::System => Round {
@@ -58,9 +50,9 @@ pub fn round(
             end: StepEnd::Continues,
         },
         Ended::Raised => {
-            let _ = tally.trace();
+            let _ = hart.tally.trace();
             *quiet = false;
-            match trap_step(state, memory, buffer, watch, trap) {
+            match trap_step(hart.state, hart.memory, hart.buffer, watch, hart.trap) {
                 StepEnd::Continues => Round {
                     made: made + 1,
                     end: StepEnd::Continues,
@@ -81,30 +73,21 @@ pub fn round(
 // Makes instructions up to a number, and stops before one that raises a trap, and after one of opcode SYSTEM.
 #[inline(always)]
 #[tactic(auto, using(crate::proofs::Runs::steps_none))]
-fn attempts(
-    state: &mut HartState,
-    memory: &mut PhysMem,
-    buffer: &mut Buffer,
-    most: u64,
-    quiet: &mut bool,
-    tally: &mut Tally,
-    trap: &mut Trap,
-) -> Stretch
-    requires serves { ServesHart buffer.old state.old memory.old }
-    requires quiet { NoneDueIfQuiet quiet.old state.old.virt }
+fn attempts(hart: &mut HartRef<'_>, most: u64, quiet: &mut bool) -> Stretch
+    requires serves { ServesHart hart.old.buffer.now hart.old.state.now hart.old.memory.now }
+    requires quiet { NoneDueIfQuiet quiet.old hart.old.state.now.virt }
     requires some { 0 < most }
-    ensures run { LeftByStretch result trap.new buffer.new tally.old tally.new
-        state.old memory.old state.new memory.new }
+    ensures run { LeftByStretch result hart.old hart.new }
     ensures made { IsStretch most result.made result.end }
-    ensures quiet { NoneDueIfQuiet quiet.new state.new.virt }
+    ensures quiet { NoneDueIfQuiet quiet.new hart.new.state.now.virt }
 {
-    match due_now(&state.virt, quiet) {
+    match due_now(&hart.state.virt, quiet) {
         Some(code) => Stretch {
             made: 0,
-            end: raise_interrupt(code, trap),
+            end: raise_interrupt(code, hart.trap),
         },
         None => {
-            let stretch = instructions(state, memory, buffer, most, tally, trap);
+            let stretch = instructions(hart, most);
             *quiet = is_plain(stretch.end);
             stretch
         }
@@ -125,28 +108,27 @@ fn is_plain(end: Ended) -> bool
 // The same where no interrupt is due.
 #[inline(always)]
 #[tactic(auto, using(crate::proofs::Runs::runs_both, crate::proofs::PlainSteps::plain_runs))]
-fn instructions(
-    state: &mut HartState,
-    memory: &mut PhysMem,
-    buffer: &mut Buffer,
-    most: u64,
-    tally: &mut Tally,
-    trap: &mut Trap,
-) -> Stretch
-    requires serves { ServesHart buffer.old state.old memory.old }
-    requires none { due state.old.virt.csrs state.old.virt.mode ≡ None }
+fn instructions(hart: &mut HartRef<'_>, most: u64) -> Stretch
+    requires serves { ServesHart hart.old.buffer.now hart.old.state.now hart.old.memory.now }
+    requires none { due hart.old.state.now.virt.csrs hart.old.state.now.virt.mode ≡ None }
     requires some { 0 < most }
-    ensures run { LeftByStretch result trap.new buffer.new tally.old tally.new
-        state.old memory.old state.new memory.new }
+    ensures run { LeftByStretch result hart.old hart.new }
     ensures made { IsStretch most result.made result.end }
-    ensures plain { IfPlain result.end (KeepsContext state.old.virt state.new.virt) }
+    ensures plain { IfPlain result.end (KeepsContext hart.old.state.now.virt hart.new.state.now.virt) }
 {
-    match fetched(state, memory, buffer) {
+    match fetched(hart.state, hart.memory, hart.buffer) {
         Ok(word) => {
-            let common = common_instructions(state, memory, buffer, word, most, tally);
+            let common = common_instructions(
+                hart.state,
+                hart.memory,
+                hart.buffer,
+                word,
+                most,
+                hart.tally,
+            );
             match common.word {
                 Some(word) => {
-                    let last = last(state, memory, buffer, word, tally, trap);
+                    let last = last(hart, word);
                     Stretch {
                         made: common.made + last.made,
                         end: last.end,
@@ -158,7 +140,7 @@ fn instructions(
                 },
             }
         }
-        Err(lookup) => first_anew(state, memory, buffer, lookup, tally, trap),
+        Err(lookup) => first_anew(hart, lookup),
     }
 }
 
@@ -210,70 +192,72 @@ fn one(end: Ended) -> Stretch
 // An instruction for whose access at pc this is looked up, as a stretch.
 #[inline(always)]
 #[tactic(auto, using(crate::proofs::Runs::runs_one))]
-fn first_anew(
-    state: &mut HartState,
-    memory: &mut PhysMem,
-    buffer: &mut Buffer,
-    lookup: Lookup,
-    tally: &mut Tally,
-    trap: &mut Trap,
-) -> Stretch
-    requires serves { ServesHart buffer.old state.old memory.old }
-    requires told { LookupTells state.old memory.old state.old.virt.regs.pc Width.Word Access.Fetch lookup }
-    requires none { due state.old.virt.csrs state.old.virt.mode ≡ None }
-    ensures run { LeftByStretch result trap.new buffer.new tally.old tally.new
-        state.old memory.old state.new memory.new }
+fn first_anew(hart: &mut HartRef<'_>, lookup: Lookup) -> Stretch
+    requires serves { ServesHart hart.old.buffer.now hart.old.state.now hart.old.memory.now }
+    requires told { LookupTells hart.old.state.now hart.old.memory.now
+        hart.old.state.now.virt.regs.pc Width.Word Access.Fetch lookup }
+    requires none { due hart.old.state.now.virt.csrs hart.old.state.now.virt.mode ≡ None }
+    ensures run { LeftByStretch result hart.old hart.new }
     ensures made { result.made ≡ one_of result.end }
-    ensures plain { IfPlain result.end (KeepsContext state.old.virt state.new.virt) }
+    ensures plain { IfPlain result.end (KeepsContext hart.old.state.now.virt hart.new.state.now.virt) }
 {
-    one(instruction_anew(state, memory, buffer, lookup, tally, trap))
+    one(instruction_anew(
+        hart.state,
+        hart.memory,
+        hart.buffer,
+        lookup,
+        hart.tally,
+        hart.trap,
+    ))
 }
 
 // The instruction of the next word, as a stretch.
 #[inline(always)]
 #[tactic(auto, using(crate::proofs::Runs::runs_one))]
-fn last(
-    state: &mut HartState,
-    memory: &mut PhysMem,
-    buffer: &mut Buffer,
-    word: u32,
-    tally: &mut Tally,
-    trap: &mut Trap,
-) -> Stretch
-    requires serves { ServesHart buffer.old state.old memory.old }
-    requires none { due state.old.virt.csrs state.old.virt.mode ≡ None }
-    requires next { IsNext word state.old memory.old }
-    ensures run { LeftByStretch result trap.new buffer.new tally.old tally.new
-        state.old memory.old state.new memory.new }
+fn last(hart: &mut HartRef<'_>, word: u32) -> Stretch
+    requires serves { ServesHart hart.old.buffer.now hart.old.state.now hart.old.memory.now }
+    requires none { due hart.old.state.now.virt.csrs hart.old.state.now.virt.mode ≡ None }
+    requires next { IsNext word hart.old.state.now hart.old.memory.now }
+    ensures run { LeftByStretch result hart.old hart.new }
     ensures made { result.made ≡ one_of result.end }
-    ensures plain { IfPlain result.end (KeepsContext state.old.virt state.new.virt) }
+    ensures plain { IfPlain result.end (KeepsContext hart.old.state.now.virt hart.new.state.now.virt) }
 {
-    one(ended(state, memory, buffer, word, tally, trap))
+    one(ended(hart, word))
 }
 
 // The instruction of a word, whose own access at pc has found nothing. The tally gets the trace where it is
 // made.
 #[inline(always)]
 #[tactic(auto, using(crate::proofs::FirstFound::word_ends))]
-fn ended(
-    state: &mut HartState,
-    memory: &mut PhysMem,
-    buffer: &mut Buffer,
-    word: u32,
-    tally: &mut Tally,
-    trap: &mut Trap,
-) -> Ended
-    requires serves { ServesHart buffer.old state.old memory.old }
-    ensures told { told_of tally.old.trace
-        (attempt_of_word state.old memory.old word)
-        ≡ told_by result trap.new state.new memory.new tally.new.trace }
-    ensures tally { IsTallied result tally.old tally.new }
-    ensures left { LeftBy result buffer.new state.old memory.old state.new memory.new }
+fn ended(hart: &mut HartRef<'_>, word: u32) -> Ended
+    requires serves { ServesHart hart.old.buffer.now hart.old.state.now hart.old.memory.now }
+    ensures told { told_of hart.old.tally.now.trace
+        (attempt_of_word hart.old.state.now hart.old.memory.now word)
+        ≡ told_by result hart.new.trap.now hart.new.state.now hart.new.memory.now hart.new.tally.now.trace }
+    ensures tally { IsTallied result hart.old.tally.now hart.new.tally.now }
+    ensures left { LeftBy result hart.new.buffer.now hart.old.state.now hart.old.memory.now
+        hart.new.state.now hart.new.memory.now }
+    ensures same { SameReferences hart.old hart.new }
 {
     if is_system(word) {
-        counted(state, memory, buffer, word, None, tally, trap)
+        let fetched = FetchedWord { word, found: None };
+        counted(
+            hart.state,
+            hart.memory,
+            hart.buffer,
+            fetched,
+            hart.tally,
+            hart.trap,
+        )
     } else {
-        missed(state, memory, buffer, word, tally, trap)
+        missed(
+            hart.state,
+            hart.memory,
+            hart.buffer,
+            word,
+            hart.tally,
+            hart.trap,
+        )
     }
 }
 
@@ -296,37 +280,44 @@ fn missed(
     ensures left { LeftBy result buffer.new state.old memory.old state.new memory.new }
 {
     match decode_common(word) {
-        Some(op) => missed_common(state, memory, buffer, word, &op, tally, trap),
-        None => counted(state, memory, buffer, word, None, tally, trap),
+        Some(op) => {
+            let mut hart = HartRef {
+                state,
+                memory,
+                buffer,
+                tally,
+                trap,
+            };
+            missed_common(&mut hart, word, &op)
+        }
+        None => {
+            let fetched = FetchedWord { word, found: None };
+            counted(state, memory, buffer, fetched, tally, trap)
+        }
     }
 }
 
 // The instruction that a common word is, which is none of opcode SYSTEM.
 #[inline(always)]
 #[tactic(auto, using(crate::proofs::Told::system_told))]
-fn missed_common(
-    state: &mut HartState,
-    memory: &mut PhysMem,
-    buffer: &mut Buffer,
-    word: u32,
-    op: &Op,
-    tally: &mut Tally,
-    trap: &mut Trap,
-) -> Ended
+fn missed_common(hart: &mut HartRef<'_>, word: u32, op: &Op) -> Ended
     requires op { op_of word ≡ Some op.now }
     requires plain { is_system word ≡ false }
-    requires serves { ServesHart buffer.old state.old memory.old }
-    ensures told { told_of tally.old.trace
-        (attempt_of_effect state.old memory.old word (meaning op.now state.old.virt.regs))
-        ≡ told_by result trap.new state.new memory.new tally.new.trace }
-    ensures tally { IsTallied result tally.old tally.new }
-    ensures left { LeftBy result buffer.new state.old memory.old state.new memory.new }
+    requires serves { ServesHart hart.old.buffer.now hart.old.state.now hart.old.memory.now }
+    ensures told { told_of hart.old.tally.now.trace
+        (attempt_of_effect hart.old.state.now hart.old.memory.now word
+        (meaning op.now hart.old.state.now.virt.regs))
+        ≡ told_by result hart.new.trap.now hart.new.state.now hart.new.memory.now hart.new.tally.now.trace }
+    ensures tally { IsTallied result hart.old.tally.now hart.new.tally.now }
+    ensures left { LeftBy result hart.new.buffer.now hart.old.state.now hart.old.memory.now
+        hart.new.state.now hart.new.memory.now }
+    ensures same { SameReferences hart.old hart.new }
 {
-    let pc = state.virt.regs.pc;
-    let _ = tally.trace();
-    match missed_data(state, memory, buffer, word, op, trap) {
+    let pc = hart.state.virt.regs.pc;
+    let _ = hart.tally.trace();
+    match missed_data(hart.state, hart.memory, hart.buffer, word, op, hart.trap) {
         Ended::Plain => {
-            tally.count(pc, word);
+            hart.tally.count(pc, word);
             Ended::Plain
         }
         Ended::System => Ended::System,
@@ -372,7 +363,13 @@ fn missed_data(
             let value = state.virt.regs.read(rs2);
             store_anew(state, memory, buffer, address, width, value, trap)
         }
-        _ => rare(state, memory, buffer, word, None, trap),
+        _ => rare(
+            state,
+            memory,
+            buffer,
+            FetchedWord { word, found: None },
+            trap,
+        ),
     }
 }
 
@@ -552,20 +549,19 @@ fn instruction_anew(
     ensures left { LeftBy result buffer.new state.old memory.old state.new memory.new }
 {
     let pc = state.virt.regs.pc;
-    let (width, access) = (Width::Word, Access::Fetch);
+    let access = MemoryAccess {
+        va: pc,
+        width: Width::Word,
+        kind: Access::Fetch,
+    };
     let mut entry = None;
-    match reach_by(state, memory, pc, width, access, lookup, trap, &mut entry) {
+    match reach_by(state, memory, access, lookup, trap, &mut entry) {
         Some(place) => {
-            let found = entry.as_ref();
-            counted(
-                state,
-                memory,
-                buffer,
-                word_at(memory, place),
-                found,
-                tally,
-                trap,
-            )
+            let fetched = FetchedWord {
+                word: word_at(memory, place),
+                found: entry.as_ref(),
+            };
+            counted(state, memory, buffer, fetched, tally, trap)
         }
         None => Ended::Raised,
     }
@@ -578,22 +574,23 @@ fn counted(
     state: &mut HartState,
     memory: &mut PhysMem,
     buffer: &mut Buffer,
-    word: u32,
-    found: Option<&FirstEntry>,
+    fetched: FetchedWord<'_>,
     tally: &mut Tally,
     trap: &mut Trap,
 ) -> Ended
     requires serves { ServesHart buffer.old state.old memory.old }
-    requires fits { IfSome found (λ e. HasGuestFrame e.now) }
+    requires fits { IfSome fetched.found (λ e. HasGuestFrame e.now) }
     ensures told { told_of tally.old.trace
-        (attempt_at (entries_of (option_map (λ e. e.now) found.entry)) state.old memory.old word)
+        (attempt_at (entries_of (option_map (λ e. e.now) fetched.entry.found))
+        state.old memory.old fetched.entry.word)
         ≡ told_by result trap.new state.new memory.new tally.new.trace }
     ensures tally { IsTallied result tally.old tally.new }
     ensures left { LeftBy result buffer.new state.old memory.old state.new memory.new }
 {
     let pc = state.virt.regs.pc;
     let _ = tally.trace();
-    match rare(state, memory, buffer, word, found, trap) {
+    let word = fetched.word;
+    match rare(state, memory, buffer, fetched, trap) {
         Ended::Plain => {
             if is_system(word) {
                 Ended::System

@@ -12,8 +12,8 @@ ghost use Rattle.machine_defs.specs.FirstLeaves.{entries_of, entry_walked, unles
 ghost use Rattle.data_access.specs.Places.{IsPlaceFor};
 ghost use Rattle.stage_walk.specs.Ends.{LeafFits};
 ghost use Rattle.two_stage_walk.specs.Places.{KeepsOffset};
-ghost use Rattle.rv64_hart.specs.Lookups.{LookupTells, missing_at};
-ghost use Rattle.rv64_hart.specs.MachineMemory.{access_over, found_over, known_on, mmu_on, reading_of_memory, second_of_memory};
+ghost use Rattle.rv64_hart.specs.Lookups.{IsAccessReached, LookupTells, missing_at};
+ghost use Rattle.rv64_hart.specs.MachineMemory.{known_on, mmu_on, reading_of_memory, second_of_memory};
 
 use arch_defs::{
     Access, FirstEntry, Found, HartState, LeafPte, MissingPlace, SupervisorRoot, Tag, Trap, Width,
@@ -24,6 +24,14 @@ use translation_buffer::{Lookup, passed_by};
 use two_stage_walk::{
     first_leaf, first_stage, guest_page_trap, leaf_address, supervisor_of, translate_found,
 };
+
+/// An access to memory: the virtual address of its first byte, how wide it is, and of which kind.
+#[derive(Clone, Copy)]
+pub struct MemoryAccess {
+    pub va: u64,
+    pub width: Width,
+    pub kind: Access,
+}
 
 // The translation of an address's one page under a leaf.
 fn first_entry(tag: &Tag, atp: SupervisorRoot, va: u64, leaf: &LeafPte) -> FirstEntry
@@ -129,22 +137,22 @@ fn first_stage_anew(
 fn reached(
     state: &HartState,
     memory: &PhysMem,
-    va: u64,
-    width: Width,
-    access: Access,
+    access: MemoryAccess,
     found: Found,
     trap: &mut Trap,
 ) -> Option<u64>
-    requires aligned { va % bytes_in width ≡ 0 }
-    requires offset { KeepsOffset va found }
+    requires aligned { access.va % bytes_in access.width ≡ 0 }
+    requires offset { KeepsOffset access.va found }
     ensures place { ok_or result trap.new ≡ answer_of false state.now.virt.csrs
         (machine_memory memory.now) (located_by (second_of_memory state.now.virt memory.now)
-        state.now.virt.mode va access found) }
-    ensures inside { IfSome result (λ place. IsPlaceFor (machine_memory memory.now) width place) }
+        state.now.virt.mode access.va access.kind found) }
+    ensures inside { IfSome result
+        (λ place. IsPlaceFor (machine_memory memory.now) access.width place) }
 {
     let virt = &state.virt;
+    let (va, kind) = (access.va, access.kind);
     memory.is_whole();
-    match translate_found(memory, &virt.csrs, virt.mode, va, access, false, found) {
+    match translate_found(memory, &virt.csrs, virt.mode, va, kind, false, found) {
         Ok(place) => Some(place),
         Err(raised) => {
             *trap = raised;
@@ -159,51 +167,40 @@ fn reached(
 pub fn reach(
     state: &HartState,
     memory: &PhysMem,
-    va: u64,
-    width: Width,
-    access: Access,
+    access: MemoryAccess,
     trap: &mut Trap,
     entry: &mut Option<FirstEntry>,
 ) -> Option<u64>
     requires none { entry.old ≡ None }
-    ensures place { ok_or result trap.new ≡ answer_of false state.now.virt.csrs
-        (machine_memory memory.now) (access_over memory.now state.now va width access) }
-    ensures entry { entries_of entry.new ≡ found_over memory.now state.now va width access }
-    ensures inside { IfSome result (λ place. IsPlaceFor (machine_memory memory.now) width place) }
-    ensures fits { IfSome entry.new HasGuestFrame }
+    ensures { IsAccessReached state.now memory.now access trap.new entry.new result }
 {
-    if !is_aligned(va, width) {
-        *trap = Trap::of_exception(state.virt.mode, access.faults().misaligned, va);
+    if !is_aligned(access.va, access.width) {
+        *trap = Trap::of_exception(state.virt.mode, access.kind.faults().misaligned, access.va);
         return None;
     }
-    let found = first_stage_of(state, memory, va, access, entry);
-    reached(state, memory, va, width, access, found, trap)
+    let found = first_stage_of(state, memory, access.va, access.kind, entry);
+    reached(state, memory, access, found, trap)
 }
 
 // The same where no cached translation passes the access on.
 fn reach_anew(
     state: &HartState,
     memory: &PhysMem,
-    va: u64,
-    width: Width,
-    access: Access,
+    access: MemoryAccess,
     trap: &mut Trap,
     entry: &mut Option<FirstEntry>,
 ) -> Option<u64>
     requires none { entry.old ≡ None }
-    requires unknown { va % bytes_in width ≡ 0 → known_on state.now va access ≡ None }
-    ensures place { ok_or result trap.new ≡ answer_of false state.now.virt.csrs
-        (machine_memory memory.now) (access_over memory.now state.now va width access) }
-    ensures entry { entries_of entry.new ≡ found_over memory.now state.now va width access }
-    ensures inside { IfSome result (λ place. IsPlaceFor (machine_memory memory.now) width place) }
-    ensures fits { IfSome entry.new HasGuestFrame }
+    requires unknown { access.va % bytes_in access.width ≡ 0
+        → known_on state.now access.va access.kind ≡ None }
+    ensures { IsAccessReached state.now memory.now access trap.new entry.new result }
 {
-    if !is_aligned(va, width) {
-        *trap = Trap::of_exception(state.virt.mode, access.faults().misaligned, va);
+    if !is_aligned(access.va, access.width) {
+        *trap = Trap::of_exception(state.virt.mode, access.kind.faults().misaligned, access.va);
         return None;
     }
-    let found = first_stage_anew(state, memory, va, access, entry);
-    reached(state, memory, va, width, access, found, trap)
+    let found = first_stage_anew(state, memory, access.va, access.kind, entry);
+    reached(state, memory, access, found, trap)
 }
 
 /// The same by what is looked up for the access.
@@ -211,32 +208,26 @@ fn reach_anew(
 pub fn reach_by(
     state: &HartState,
     memory: &PhysMem,
-    va: u64,
-    width: Width,
-    access: Access,
+    access: MemoryAccess,
     lookup: Lookup,
     trap: &mut Trap,
     entry: &mut Option<FirstEntry>,
 ) -> Option<u64>
-    requires told { LookupTells state.now memory.now va width access lookup }
+    requires told { LookupTells state.now memory.now access.va access.width access.kind lookup }
     requires none { entry.old ≡ None }
-    ensures place { ok_or result trap.new ≡ answer_of false state.now.virt.csrs
-        (machine_memory memory.now) (access_over memory.now state.now va width access) }
-    ensures entry { entries_of entry.new ≡ found_over memory.now state.now va width access }
-    ensures inside { IfSome result (λ place. IsPlaceFor (machine_memory memory.now) width place) }
-    ensures fits { IfSome entry.new HasGuestFrame }
+    ensures { IsAccessReached state.now memory.now access trap.new entry.new result }
 {
     match lookup {
         Lookup::InMemory(place) => Some(place),
         Lookup::GuestPageFault(address) => {
-            *trap = guest_page_trap(&missing_at(state, va, access, address));
+            *trap = guest_page_trap(&missing_at(state, access.va, access.kind, address));
             None
         }
         Lookup::AccessFault => {
-            *trap = missing_at(state, va, access, va).access_fault();
+            *trap = missing_at(state, access.va, access.kind, access.va).access_fault();
             None
         }
-        Lookup::NotPassed => reach_anew(state, memory, va, width, access, trap, entry),
+        Lookup::NotPassed => reach_anew(state, memory, access, trap, entry),
     }
 }
 

@@ -6,7 +6,7 @@ ghost use Rattle.instruction_laws.specs.MissedPlaces.{wanted_by, wanted_of};
 ghost use Rattle.rv64_hart.specs.MachineMemory.{wanted_next};
 
 use crate::accesses::word_at;
-use crate::walked_accesses::reach;
+use crate::walked_accesses::{MemoryAccess, reach};
 use arch_defs::{Access, HartState, Trap, Virtual, Width};
 use data_access::DataAccess;
 use op_defs::Effect;
@@ -42,9 +42,13 @@ pub fn wanted_at(state: &HartState, memory: &PhysMem) -> Option<DataAccess>
     ensures { result ≡ wanted_next state.now memory.now }
 {
     let pc = state.virt.regs.pc;
-    let (width, access) = (Width::Word, Access::Fetch);
+    let access = MemoryAccess {
+        va: pc,
+        width: Width::Word,
+        kind: Access::Fetch,
+    };
     let (mut trap, mut entry) = (Trap::of_interrupt(0), None);
-    match reach(state, memory, pc, width, access, &mut trap, &mut entry) {
+    match reach(state, memory, access, &mut trap, &mut entry) {
         Some(place) => wanted_of(&state.virt, word_at(memory, place)),
         None => None,
     }

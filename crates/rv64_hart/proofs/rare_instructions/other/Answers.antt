@@ -7,4 +7,4 @@ use Rattle.rv64_hart.proofs.rare_instructions.other.Goals as goal
 
 pub returns-in-Some-clause-ends : goal.returns-in-Some-clause-ends
 returns-in-Some-clause-ends c =
-    op_ends (entries_of (option_map (λ e. e.now) c.args.found)) c.args.state.now c.args.memory.now c.args.word c.in-Some.op (meaning c.in-Some.op c.args.state.now.virt.regs) _ (sym c.in-Some.ensures) refl c.asked.ensures.ends
+    op_ends (entries_of (option_map (λ e. e.now) c.args.fetched.found)) c.args.state.now c.args.memory.now c.args.fetched.word c.in-Some.op (meaning c.in-Some.op c.args.state.now.virt.regs) _ (sym c.in-Some.ensures) refl c.asked.ensures.ends

@@ -14,8 +14,8 @@ returns-in-Some-clause-told c =
     let at : fetch_place (mmu_on c.args.state.now c.args.memory.now) c.args.state.now.virt ≡ At c.in-Some.place =
     found c.args.state.now.virt.csrs c.args.memory.now _ c.in-Some.place (ap (λ r. ok_or r c.reach_by.new.trap) (sym c.in-Some.is) ∙ c.reach_by.ensures.place) in
     ap (told_of c.args.tally.now.trace) (goes_on_at c.args.state.now c.args.memory.now c.in-Some.place (entries_of c.reach_by.new.entry) at (sym c.reach_by.ensures.entry)
-    ∙ ap (λ xs. attempt_at xs c.args.state.now c.args.memory.now (word_at (reading_of_memory c.args.memory.now) c.in-Some.place)) (ap entries_of (sym c.as_ref-found.ensures.value))
-    ∙ ap (attempt_at (entries_of (option_map (λ e. e.now) c.as_ref-found.result)) c.args.state.now c.args.memory.now) (sym c.word_at.ensures))
+    ∙ ap (λ xs. attempt_at xs c.args.state.now c.args.memory.now (word_at (reading_of_memory c.args.memory.now) c.in-Some.place)) (ap entries_of (sym c.as_ref.ensures.value))
+    ∙ ap (attempt_at (entries_of (option_map (λ e. e.now) c.as_ref.result)) c.args.state.now c.args.memory.now) (sym c.word_at.ensures))
     ∙ c.counted.ensures.told
 
 pub returns-in-None-clause-told : goal.returns-in-None-clause-told
