@@ -1,5 +1,6 @@
 -- A host of one guest: its steps, its form, and what it needs.
 use Rattle.std.proofs.Common.{arith, ◌≡◌, ◌∙◌, ℕ, ◌+◌, ◌*◌, ◌/◌, ◌<◌, ◌≤◌, ◌^◌, false, List, [], ◌∷◌, length, slice_index, refl, ap, sym, subst}
+use Rattle.std.specs.List.{All}
 use Rattle.std.proofs.lemmas.List.{get_or_past}
 use Rattle.std.proofs.lemmas.Nat.{mul-le}
 use Rattle.guest_save.specs.declared.versions.Version.TheVariants.{Third}
@@ -8,7 +9,7 @@ use Rattle.guest_save.specs.Laws.{RoundTrip}
 use Rattle.guest_save.specs.Reading.{machine_in}
 use Rattle.guest_save.specs.Savable.{IsSavable}
 use Rattle.guest_save.specs.Saves.{SavedMachine}
-use Rattle.guest_turns.specs.Account.{HasRoomForTurn}
+use Rattle.guest_turns.specs.Account.{CanMakeTurn, HasRoomForTurn}
 use Rattle.guest_turns.specs.declared.sources.Source.{Source}
 use Rattle.guest_turns.specs.Hosted.{Hosted, is_set, machine_at, no_machine}
 use Rattle.guest_turns.specs.Saving.{MayBeSaved}
@@ -24,12 +25,23 @@ use Rattle.rv64_hart.specs.Counts.{Counts}
 use Rattle.debug_runs.specs.HostRuns.{HasOne, IsForm, IsRunOfSource}
 
 -- a tally without a count has room for a turn of few steps
-pub room_for_turn : (m : Machine) (k : ℕ) (tally : Counts) → m.entry_room ≤ 256 → k ≤ 2 ^ 52 → tally.entries ≡ 0 → tally.taken ≡ 0
+room_for_turn : (m : Machine) (k : ℕ) (tally : Counts) → m.entry_room ≤ 256 → k ≤ 2 ^ 52 → tally.entries ≡ 0 → tally.taken ≡ 0
     → HasRoomForTurn m k tally
 room_for_turn m k tally small few entries taken =
     let tries : turn_entries m.entry_room k ≤ (2 ^ 52 + 1) * 267 =
     mul-le (k + 1) (most_tries m.entry_room) (2 ^ 52 + 1) 267 (omega (arith, few)) (omega (arith, small)) in
     record { entries = omega (arith, tries, entries); taken = omega (arith, taken, few) }
+
+pub can_make_turn : (host : Hosted) (k : ℕ) (tally : Counts) → length host.machines ≡ 1 → ((g : ℕ) → is_set host.retired g ≡ false)
+    → All (λ m. m.entry_room ≤ 256) host.machines → (machine_at host.machines 0).platform.steps + k ≤ 2 ^ 61 → k ≤ 2 ^ 52 → tally.entries ≡ 0 → tally.taken ≡ 0
+    → CanMakeTurn host 0 k tally
+can_make_turn host k tally one active rooms early few entries taken =
+    let there : 0 < length host.machines = omega (arith, one) in
+    record {
+      guest = record { there = there; active = active 0 };
+      steps = early;
+      room = room_for_turn (machine_at host.machines 0) k tally (rooms 0 no_machine there) few entries taken;
+    }
 
 -- the run goes on
 runs_on : (m after : Machine) (k : ℕ) → IsRunOfSource m → after ≡ run m k → IsRunOfSource after

@@ -109,9 +109,12 @@ unfolding is_decided
 decided_width (op.LoadReserved w rd rs1) e = cc
 decided_width other e = tt
 
--- what it leaves of registers that can be stored can be stored
-pub done_storable : (m : Machine) (o : Op) (after : Virtual) → is_decided o ≡ true → IsStorable m.platform.virt → decided_end m o ≡ Done after None System → IsStorable after
-done_storable m o after decided is e = subst IsFine e (op_fine m (encoded o) o (decided_width o decided) is)
+-- what it leaves of registers that can be stored can be stored, whatever is cached
+pub done_storable : (m : Machine) (o : Op) (after : Virtual) (first : List FirstEntry) → is_decided o ≡ true → IsStorable m.platform.virt
+    → decided_end m o ≡ Done after None System → IsStorable (record after { first = first })
+done_storable m o after first decided is e =
+    let left : IsStorable after = subst IsFine e (op_fine m (encoded o) o (decided_width o decided) is) in
+    record { x0 = left.x0; pc = left.pc; csrs = left.csrs; reservation = left.reservation }
 
 -- an op on which the mode decides is one of these
 pub decided_else : (o : Op) → is_decided o ≡ true → ((csr : CsrOp) (source : CsrSource) (rd number : ℕ) → o ≡ op.Csr csr source rd number → ⊥) → (o ≡ op.Sret → ⊥)
@@ -133,10 +136,6 @@ decided_else other e on_csr on_sret on_wfi on_sfence on_vvma on_gvma on_load on_
 -- what such an instruction leaves has the translations that there were
 pub kept_first : (m : Machine) (op : Op) (end : Outcome) → decided_end m op ≡ end → KeepsFirst m.platform.virt end
 kept_first m op end is = subst (KeepsFirst m.platform.virt) is (decoded_first m.platform.virt (mmu_of m) (encoded op) (Some op))
-
--- and holds what registers can store, whatever is cached
-pub caching_storable : (first : List FirstEntry) (s : Virtual) → IsStorable s → IsStorable (record s { first = first })
-caching_storable first s is = record { x0 = is.x0; pc = is.pc; csrs = is.csrs; reservation = is.reservation }
 
 -- it is made where the host neither fills nor stops for it
 pub decided_made : (o : Op) (result : Handled) (before after : Guest) (memory changed : List ℕ) → result ≢ Retry → result ≢ Stopped

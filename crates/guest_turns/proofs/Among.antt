@@ -10,11 +10,10 @@ use Rattle.arch_defs.proofs.FrameSets.{apart_sym, kept}
 use Rattle.frame_split.specs.Shares.{ArePairwiseApart}
 use Rattle.shadow_space.specs.Shadows.{AreZeros}
 use Rattle.machine_defs.specs.Machine.{Machine}
-use Rattle.machine_defs.specs.Runs.{run}
 use Rattle.guest_exit.specs.declared.guests.Guest.{Guest}
 use Rattle.guest_exit.specs.View.{KeepsLayout, changed_by, machine_of}
 use Rattle.guest_turns.specs.Hosted.{Hosted, is_set, machine_at, no_machine, part_at}
-use Rattle.guest_turns.specs.Hosting.{AreHosted, HasRun, IsFree, IsGone, IsHosted, parts_of}
+use Rattle.guest_turns.specs.Hosting.{AreHosted, IsFree, IsGone, IsHosted, parts_of}
 use Rattle.guest_turns.specs.TurnLists.{updated}
 use Rattle.guest_turns.proofs.Placing.{hosted_kept, machine_kept, only_in_part}
 
@@ -192,12 +191,6 @@ turned_by guests retired free memory g change old new changed all g_in active is
 
     own_free : (block : ℕ) → IsFree block (parts_of guests) memory → Apart (in_blocks (block ∷ [])) (named_by (get_or guests g new).part)
     own_free block was = free_from_part guests block memory g new g_in was
-
-pub turned : (guests : List Guest) (retired free : List Bool) (memory : List ℕ) (g k : ℕ) (old new : Guest) (changed : List ℕ) → AreHosted guests retired free memory → g < length guests
-    → is_set retired g ≡ false → old ≡ get_or guests g old → HasRun old memory k new changed → IsHosted new changed
-    → Turned guests retired free memory g (λ m. run m k) (set guests g new) changed
-turned guests retired free memory g k old new changed all g_in active is ran hosted =
-    turned_by guests retired free memory g (λ m. run m k) old new changed all g_in active is ran.machine ran.keeps ran.only hosted
 
 -- what is seen of a guest that is at a place of the list
 pub seen_part : (guests : List Guest) (g : ℕ) (guest : Guest) → g < length guests → guest ≡ get_or guests g guest → part_at (parts_of guests) g ≡ guest.part

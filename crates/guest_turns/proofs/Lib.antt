@@ -7,6 +7,7 @@ pub mod Current
 pub mod Flags
 pub mod LastTries
 pub mod Leaving
+pub mod Lending
 pub mod Parts
 pub mod Placing
 pub mod PlainRuns

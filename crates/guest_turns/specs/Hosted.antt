@@ -1,9 +1,10 @@
 -- What contracts see of a host: the lone machines of its guests, in order, the part of each of them, machine
 -- memory, which blocks of it are free, and which guests have retired.
-use Rattle.std.specs.Prelude.{◌≡◌, ℕ, Bool, true, false, List, [], ◌∷◌, get_or, slice_set}
+use Rattle.std.specs.Prelude.{◌≡◌, ℕ, ◌<◌, Bool, true, false, List, [], ◌∷◌, length, get_or, slice_set}
 use Rattle.std.specs.List.{count_by, position_or_len}
 use Rattle.arch_defs.specs.declared.modes.Mode.TheVariants.{HS}
 use Rattle.arch_defs.specs.Clocks.{times_at_start}
+use Rattle.arch_defs.specs.Frames.{within}
 use Rattle.arch_defs.specs.Layouts.{Layout, no_part}
 use Rattle.arch_defs.specs.Registers.{virtual_at}
 use Rattle.guest_settings.specs.declared.statuses.Status.TheVariants.{Stopped}
@@ -26,12 +27,24 @@ pub record KeepsShares (old new : Hosted) : Type 0 where
 abbrev pub is_set : List Bool → ℕ → Bool
 is_set flags i = get_or flags i false
 
+-- a host has this guest, which has not retired
+pub record IsActive (host : Hosted) (g : ℕ) : Type 0 where
+  pub there : g < length host.machines
+  pub active : is_set host.retired g ≡ false
+
 -- how many are set, and the lowest one that is
 abbrev pub count_set : List Bool → ℕ
 count_set flags = count_by (λ flag. flag) flags
 
 abbrev pub lowest : List Bool → ℕ
 lowest flags = position_or_len (λ flag. flag) flags
+
+-- as a host begins: no guest has retired, and that many blocks are free, from this one on
+pub record BeginsWith (first spare : ℕ) (host : Hosted) : Type 0 where
+  pub active : (g : ℕ) → is_set host.retired g ≡ false
+  pub flags : length host.retired ≡ 16
+  pub free : (block : ℕ) → is_set host.free block ≡ within first spare block
+  pub count : count_set host.free ≡ spare
 
 -- the flags with those of these blocks set
 abbrev pub with_free : List ℕ → List Bool → List Bool

@@ -3,7 +3,7 @@ use Rattle.std.specs.Prelude.{ℕ, ◌≤◌, List, length, map}
 use Rattle.arch_defs.specs.Frames.{most_frames}
 use Rattle.std.specs.List.{All}
 use Rattle.guest_settings.specs.declared.needs.Need.{Need}
-use Rattle.frame_split.specs.Shares.{frames_of_all}
+use Rattle.frame_split.specs.Shares.{frames_of_all, frames_with}
 use Rattle.guest_settings.specs.Limits.{most_guests}
 use Rattle.guest_settings.specs.Needs.{need_of}
 use Rattle.guest_settings.specs.declared.guests.GuestSpec.{GuestSpec}
@@ -23,3 +23,8 @@ pub record AreBootable (guests : List GuestSpec) : Type 0 where
   pub few : length guests ≤ most_guests
   pub each : All IsBootable guests
   pub frames : frames_for guests ≤ most_frames
+
+-- machine memory has room for parts of these needs, and for that many blocks behind them
+pub record HasRoomForParts (needs : List Need) (spare : ℕ) : Type 0 where
+  pub few : spare ≤ 32
+  pub frames : frames_with needs spare ≤ most_frames

@@ -1,5 +1,5 @@
 -- What a move of a block, and the retirement of a guest, leave of a host.
-use Rattle.std.specs.Prelude.{ℕ, ◌≡◌, ◌+◌, true, false, List, [], ◌∷◌, length, slice_index, slice_set}
+use Rattle.std.specs.Prelude.{ℕ, ◌≡◌, ◌+◌, ◌<◌, true, false, List, [], ◌∷◌, length, slice_index, slice_set}
 use Rattle.arch_defs.specs.Frames.{Only, in_blocks, joined}
 use Rattle.arch_defs.specs.Layouts.{named_by}
 use Rattle.machine_defs.specs.Machine.{Machine}
@@ -8,12 +8,17 @@ use Rattle.block_moves.specs.Moves.{with_block, without_blocks}
 use Rattle.guest_exit.specs.declared.guests.Guest.{Guest}
 use Rattle.guest_exit.specs.View.{machine_of}
 use Rattle.guest_turns.specs.Hosting.{IsHosted}
-use Rattle.guest_turns.specs.Hosted.{Hosted, count_set, part_at, with_free}
+use Rattle.guest_turns.specs.Hosted.{Hosted, IsActive, count_set, part_at, with_free}
 use Rattle.guest_turns.specs.TurnLists.{updated}
 
 -- the number of a block of a guest in machine memory
 abbrev pub block_at : Hosted → ℕ → ℕ → ℕ
 block_at host g block = slice_index (part_at host.parts g).blocks block
+
+-- a guest of a host has not retired, and has a block of this number
+pub record HasBlock (host : Hosted) (g i : ℕ) : Type 0 where
+  pub guest : IsActive host g
+  pub block : i < length (part_at host.parts g).blocks
 
 -- block i of a guest is another block of memory now. Its lone machine is the same, the old block is zeros,
 -- and nothing else of memory has changed, but in the guest's part

@@ -1,13 +1,14 @@
 // Guests in machine memory, as they go on from their sources.
 
-ghost use Rattle.std.specs.Prelude.{◌≡◌, ◌≤◌, ℕ, length, All, IfOk};
-ghost use Rattle.arch_defs.specs.Frames.{LieIn, Only, most_frames};
+ghost use Rattle.std.specs.Prelude.{◌≡◌, ◌≤◌, length, All, IfOk};
+ghost use Rattle.arch_defs.specs.Frames.{LieIn, Only};
 ghost use Rattle.arch_defs.specs.Layouts.{Meets, named_by};
 ghost use Rattle.arch_defs.specs.Memory.{zeros};
-ghost use Rattle.frame_split.specs.Shares.{IsSplit, LeavesSpare, blocks_of_all, frames_with};
+ghost use Rattle.frame_split.specs.Shares.{IsSharedOut};
 ghost use Rattle.guest_save.specs.Needs.{machine_need};
 ghost use Rattle.shadow_space.specs.Shadows.{AreZeros};
 ghost use Rattle.guest_turns.specs.Hosting.{AreLaidOut, AreMade, HaveParts, IsAtStart, IsBesideRam, space_tables};
+ghost use Rattle.guest_turns.specs.Limits.{HasRoomForParts};
 ghost use Rattle.machine_defs.specs.Bootable.{IsBootable};
 ghost use Rattle.guest_turns.specs.Sources.{IsBootableSource, machine_of_source, need_of_source, needs_of_sources};
 
@@ -30,14 +31,8 @@ use virtual_timer::Clock;
 pub fn share(alloc: Global, sources: &[Source], spare: u64) -> Result<Split, NoMemory>
     requires few { length sources.now ≤ 16 }
     requires each { All IsBootableSource sources.now }
-    requires spare { spare ≤ 32 }
-    requires frames { frames_with (needs_of_sources sources.now) spare ≤ most_frames }
-    ensures split { IfOk result (λ split.
-        IsSplit (needs_of_sources sources.now) split.parts.items split.frames) }
-    ensures blocks { IfOk result (λ split. split.blocks ≡ blocks_of_all (needs_of_sources sources.now)) }
-    ensures spare { IfOk result (λ split. LeavesSpare split.blocks spare split.parts.items split.frames) }
-    ensures frames { IfOk result (λ split.
-        split.frames ≡ frames_with (needs_of_sources sources.now) spare) }
+    requires room { HasRoomForParts (needs_of_sources sources.now) spare }
+    ensures shared { IfOk result (IsSharedOut (needs_of_sources sources.now) spare) }
 {
     let needs = needs(alloc, sources)?;
     match plan(alloc, needs.as_slice(), spare) {

@@ -1,28 +1,26 @@
 // The host of the guests.
 
-ghost use Rattle.std.specs.Prelude.{◌≡◌, ◌≢◌, ℕ, ◌+◌, ◌^◌, ◌<◌, ◌≤◌, ◌↔◌, true, false, is_ok, length, map, All, IfErr, IfOk, IfSome, IsErr, OnErr};
-ghost use Rattle.arch_defs.specs.Frames.{Only, most_frames, within};
+ghost use Rattle.std.specs.Prelude.{◌≡◌, ◌+◌, ◌^◌, ◌<◌, ◌≤◌, ◌↔◌, true, false, is_ok, length, map, All, IfErr, IfOk, IfSome, IsErr, OnErr};
+ghost use Rattle.arch_defs.specs.Frames.{Only};
 ghost use Rattle.arch_defs.specs.Layouts.{named_by};
 ghost use Rattle.arch_defs.specs.Memory.{ram_memory};
 ghost use Rattle.frame_split.specs.Shares.{IsSplit, blocks_of_all, frames_with};
 ghost use Rattle.guest_exit.specs.NextSteps.{WantsUnlessDue, access_next, word_next};
 ghost use Rattle.guest_save.specs.Forms.{form};
 ghost use Rattle.guest_save.specs.Savable.{IsSavable};
-ghost use Rattle.guest_settings.specs.declared.statuses.Status.TheVariants.{Running};
 ghost use Rattle.hlv_hsv.specs.Places.{hlv_place_in};
 ghost use Rattle.hosted_steps.specs.ExitCases.{found_next};
-ghost use Rattle.machine_defs.specs.Fills.{needed};
 ghost use Rattle.machine_defs.specs.Lookups.{looked_up};
 ghost use Rattle.machine_defs.specs.Machine.{start, with_pending_lines};
 ghost use Rattle.machine_defs.specs.Runs.{run};
 ghost use Rattle.outside.specs.Faults.{Rose};
 ghost use Rattle.outside.specs.Pieces.{Puts};
 ghost use Rattle.rv64_hart.specs.Leaves.{LeavesFit, leaves_list};
-ghost use Rattle.guest_turns.specs.Account.{Accounted, CountsTry, HasRoomForTurn};
-ghost use Rattle.guest_turns.specs.Hosted.{count_set, is_set, lowest, machine_at, part_at, KeepsShares};
-ghost use Rattle.guest_turns.specs.Limits.{AreBootable, frames_for, needs_of};
-ghost use Rattle.guest_turns.specs.Moves.{HasMoved, HasRetired};
-ghost use Rattle.guest_turns.specs.PlainRuns.{CountsPlainRun, HasRoomForPlainRun, IsPlainRun};
+ghost use Rattle.guest_turns.specs.Account.{Accounted, CanMakeTry, CanMakeTurn, CountsTry, IsTurn, KeepsRoom};
+ghost use Rattle.guest_turns.specs.Hosted.{count_set, is_set, lowest, machine_at, part_at, BeginsWith, KeepsShares};
+ghost use Rattle.guest_turns.specs.Limits.{AreBootable, frames_for, needs_of, HasRoomForParts};
+ghost use Rattle.guest_turns.specs.Moves.{HasBlock, HasMoved, HasRetired};
+ghost use Rattle.guest_turns.specs.PlainRuns.{CanRunPlain, CountsPlainRun, IsPlainRun};
 ghost use Rattle.guest_turns.specs.Saving.{MayBeSaved};
 ghost use Rattle.guest_turns.specs.Sources.{AreBootableSources, machines_of_sources, needs_of_sources};
 ghost use Rattle.guest_turns.specs.Tries.{HasTried, events_made};
@@ -87,9 +85,7 @@ impl Host {
         ensures parts { IfOk result (λ host. IsSplit (needs_of guests.items) host.parts
             (frames_for guests.items)) }
         ensures fresh { IfOk result (λ host. All (λ m. m.platform.steps ≡ 0) host.machines) }
-        ensures active { IfOk result (λ host. (g : ℕ) → is_set host.retired g ≡ false) }
-        ensures flags { IfOk result (λ host. length host.retired ≡ 16) }
-        ensures free { IfOk result (λ host. count_set host.free ≡ 0) }
+        ensures begins { IfOk result (BeginsWith (blocks_of_all (needs_of guests.items)) 0) }
     {
         Host::boot_spare(alloc, guests, 0)
     }
@@ -97,17 +93,12 @@ impl Host {
     /// The same, with that many free blocks behind those of all parts, which lie in no part.
     pub fn boot_spare(alloc: Global, guests: Vec<GuestSpec>, spare: u64) -> Result<Host, NoMemory>
         requires bootable { AreBootable guests.items }
-        requires spare { spare ≤ 32 }
-        requires frames { frames_with (needs_of guests.items) spare ≤ most_frames }
+        requires room { HasRoomForParts (needs_of guests.items) spare }
         ensures machines { IfOk result (λ host. host.machines ≡ map start guests.items) }
         ensures parts { IfOk result (λ host. IsSplit (needs_of guests.items) host.parts
             (frames_with (needs_of guests.items) spare)) }
         ensures fresh { IfOk result (λ host. All (λ m. m.platform.steps ≡ 0) host.machines) }
-        ensures active { IfOk result (λ host. (g : ℕ) → is_set host.retired g ≡ false) }
-        ensures flags { IfOk result (λ host. length host.retired ≡ 16) }
-        ensures free { IfOk result (λ host. (block : ℕ) → is_set host.free block
-            ≡ within (blocks_of_all (needs_of guests.items)) spare block) }
-        ensures count { IfOk result (λ host. count_set host.free ≡ spare) }
+        ensures begins { IfOk result (BeginsWith (blocks_of_all (needs_of guests.items)) spare) }
     {
         Host::boot_from(alloc, fresh_sources(alloc, guests)?, spare)
     }
@@ -117,17 +108,12 @@ impl Host {
     /// lie in no part. It may answer out of memory.
     pub fn boot_from(alloc: Global, sources: Vec<Source>, spare: u64) -> Result<Host, NoMemory>
         requires bootable { AreBootableSources sources.items }
-        requires spare { spare ≤ 32 }
-        requires frames { frames_with (needs_of_sources sources.items) spare ≤ most_frames }
+        requires room { HasRoomForParts (needs_of_sources sources.items) spare }
         ensures machines { IfOk result (λ host. host.machines ≡ machines_of_sources sources.items) }
         ensures parts { IfOk result (λ host. IsSplit (needs_of_sources sources.items) host.parts
             (frames_with (needs_of_sources sources.items) spare)) }
         ensures steps { IfOk result (λ host. All (λ m. m.platform.steps ≤ 2 ^ 60) host.machines) }
-        ensures active { IfOk result (λ host. (g : ℕ) → is_set host.retired g ≡ false) }
-        ensures flags { IfOk result (λ host. length host.retired ≡ 16) }
-        ensures free { IfOk result (λ host. (block : ℕ) → is_set host.free block
-            ≡ within (blocks_of_all (needs_of_sources sources.items)) spare block) }
-        ensures count { IfOk result (λ host. count_set host.free ≡ spare) }
+        ensures begins { IfOk result (BeginsWith (blocks_of_all (needs_of_sources sources.items)) spare) }
     {
         let split = share(alloc, sources.as_slice(), spare)?;
         let mut memory = PhysMem::new(alloc, split.frames)?;
@@ -199,19 +185,11 @@ impl Host {
     /// machines stay as they were, and no byte outside the guest's part changes. The tally gets the account
     /// of the hart.
     pub fn turn(&mut self, g: u32, k: u64, tally: &mut Tally) -> u64
-        requires guest { g < length self.old.machines }
-        requires active { is_set self.old.retired g ≡ false }
-        requires steps { (machine_at self.old.machines g).platform.steps + k ≤ 2 ^ 61 }
-        requires room { HasRoomForTurn (machine_at self.old.machines g) k tally.old }
+        requires can { CanMakeTurn self.old g k tally.old }
         ensures machines { self.new.machines ≡ updated g (λ m. run m k) self.old.machines }
         ensures shares { KeepsShares self.old self.new }
         ensures isolated { Only (named_by (part_at self.old.parts g)) self.old.memory self.new.memory }
-        ensures made { (machine_at self.old.machines g).platform.steps + result
-            ≡ (machine_at self.new.machines g).platform.steps }
-        ensures most { result ≤ k }
-        ensures fewer { result < k → (machine_at self.new.machines g).platform.status ≢ Running }
-        ensures room { (machine_at self.new.machines g).entry_room
-            ≡ (machine_at self.old.machines g).entry_room }
+        ensures made { IsTurn (machine_at self.old.machines g) k (machine_at self.new.machines g) result }
         ensures account { Accounted (machine_at self.old.machines g) k result tally.old tally.new }
     {
         let guest = &mut self.guests[g as usize];
@@ -222,9 +200,7 @@ impl Host {
     /// many. It may make fewer, and none. All other machines stay as they were, and no byte outside the
     /// guest's part changes. The tally gets the account of the hart.
     pub fn run_plain(&mut self, g: u32, k: u64, tally: &mut Tally) -> u64
-        requires guest { g < length self.old.machines }
-        requires active { is_set self.old.retired g ≡ false }
-        requires room { HasRoomForPlainRun (machine_at self.old.machines g) k tally.old }
+        requires can { CanRunPlain self.old g k tally.old }
         ensures machines { self.new.machines ≡ updated g (λ m. run m result) self.old.machines }
         ensures shares { KeepsShares self.old self.new }
         ensures isolated { Only (named_by (part_at self.old.parts g)) self.old.memory self.new.memory }
@@ -240,18 +216,11 @@ impl Host {
     /// or the step waits for good. All other machines stay as they were, and no byte outside the guest's part
     /// changes. The tally gets the account of the hart.
     pub fn make_try(&mut self, g: u32, tally: &mut Tally) -> Made
-        requires guest { g < length self.old.machines }
-        requires active { is_set self.old.retired g ≡ false }
-        requires running { (machine_at self.old.machines g).platform.status ≡ Running }
-        requires steps { (machine_at self.old.machines g).platform.steps < 2 ^ 61 }
-        requires entries { tally.old.entries < 2 ^ 62 }
-        requires taken { tally.old.taken < 2 ^ 62 }
+        requires can { CanMakeTry self.old g tally.old }
         ensures machines { HasTried result g self.old.machines self.new.machines }
         ensures shares { KeepsShares self.old self.new }
         ensures isolated { Only (named_by (part_at self.old.parts g)) self.old.memory self.new.memory }
-        ensures room { (machine_at self.new.machines g).entry_room
-            ≡ (machine_at self.old.machines g).entry_room }
-        ensures needed { needed ≤ (machine_at self.old.machines g).entry_room }
+        ensures room { KeepsRoom (machine_at self.old.machines g) (machine_at self.new.machines g) }
         ensures account { CountsTry (machine_at self.old.machines g) (machine_at self.new.machines g)
             (events_made result) tally.old tally.new }
     {
@@ -392,9 +361,7 @@ impl Host {
     /// machines are the same, and the old block is free. It answers `NoSpare` exactly where no block is free,
     /// and then changes nothing.
     pub fn relocate(&mut self, g: u32, block: u64, moves: &mut Moves) -> Result<(), MoveFault>
-        requires guest { g < length self.old.machines }
-        requires active { is_set self.old.retired g ≡ false }
-        requires block { block < length (part_at self.old.parts g).blocks }
+        requires block { HasBlock self.old g block }
         requires room { moves.old < 2 ^ 62 }
         ensures none { IsErr result ↔ (count_set self.old.free ≡ 0) }
         ensures stays { IfErr result (λ fault. (self.new ≡ self.old) × (moves.new ≡ moves.old)) }
@@ -413,9 +380,7 @@ impl Host {
 
     // Moves a block of a guest to a free block.
     fn move_to(&mut self, g: u32, block: u64, to: u32)
-        requires guest { g < length self.old.machines }
-        requires active { is_set self.old.retired g ≡ false }
-        requires block { block < length (part_at self.old.parts g).blocks }
+        requires block { HasBlock self.old g block }
         requires free { is_set self.old.free to ≡ true }
         ensures { HasMoved self.old g block to self.new }
     {

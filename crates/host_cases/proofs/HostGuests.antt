@@ -16,13 +16,10 @@ use Rattle.guest_turns.specs.declared.sources.Source.TheVariants.{Kept}
 abbrev pub IsSmall : GuestSpec → Type 0
 IsSmall spec = need_of spec ≡ record { blocks = 1; spaces = 1; entries = 16 }
 
-small_frames : (a : GuestSpec) → IsSmall a → frames_needed (need_of a) ≡ 569
-small_frames a is = ap frames_needed is
-
 frames_of_many : (guests : List GuestSpec) → All IsSmall guests → frames_for guests ≡ 569 * length guests
 frames_of_many [] each = refl
 frames_of_many (a ∷ guests) each =
-    omega (arith, small_frames a (each zero a (omega arith)), frames_of_many guests (λ i d h. each (suc i) d (omega (arith, h))))
+    omega (arith, ap frames_needed (each zero a (omega arith)), frames_of_many guests (λ i d h. each (suc i) d (omega (arith, h))))
 
 pub many_fit : (guests : List GuestSpec) → length guests ≤ 16 → All IsSmall guests → frames_for guests ≤ 9104
 many_fit guests few small = omega (arith, frames_of_many guests small, few)

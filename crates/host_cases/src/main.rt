@@ -18,7 +18,7 @@ mod storable;
 mod tries;
 mod turns;
 
-use case_files::{Block, Checker, Fault, Names, Outcome, check_rows, tell_files};
+use case_files::{Checker, Fault, FileBlock, Outcome, check_rows, tell_files};
 use row::Row;
 use std::io;
 
@@ -26,14 +26,8 @@ use std::io;
 struct HostRows;
 
 impl Checker for HostRows {
-    fn check(
-        &self,
-        file: &str,
-        names: &Names<'_>,
-        block: &Block<'_>,
-        outcome: &mut Outcome,
-    ) -> Result<(), Fault> {
-        check_rows::<Row<'_>>(file, names, block, outcome)
+    fn check(&self, given: FileBlock<'_, '_>, outcome: &mut Outcome) -> Result<(), Fault> {
+        check_rows::<Row<'_>>(given, outcome)
     }
 }
 

@@ -7,7 +7,8 @@ use Rattle.std.specs.List.{All}
 use Rattle.std.specs.Prelude.{IfSome}
 use Rattle.arch_defs.specs.Layouts.{no_part}
 use Rattle.block_moves.specs.Moves.{with_block, without_blocks}
-use Rattle.guest_turns.specs.Hosted.{Hosted, count_set, is_set, machine_at, no_machine, part_at}
+use Rattle.guest_turns.specs.Account.{Accounted, IsTurn}
+use Rattle.guest_turns.specs.Hosted.{Hosted, KeepsShares, count_set, is_set, machine_at, no_machine, part_at}
 use Rattle.guest_turns.specs.Moves.{HasMoved, HasRetired, emptied}
 use Rattle.guest_turns.specs.TurnLists.{updated, with_turn, with_turns}
 use Rattle.guest_turns.proofs.Updating.{length_updated, updated_other, updated_same}
@@ -17,7 +18,7 @@ use Rattle.rv64_hart.specs.Counts.{Counts}
 use Rattle.nesthv_top.specs.Moving.{turns_due, kept_turn, own_turns}
 use Rattle.nesthv_top.specs.Runnings.{hosted_as, HaveBlocks}
 use Rattle.nesthv_top.proofs.RetiredMachines.{active_one, active_turn, none_retired, one_retires}
-use Rattle.nesthv_top.proofs.Turning.{IsTurn, TurnsLeft, left_is, left_next}
+use Rattle.nesthv_top.proofs.Turning.{TurnsLeft, left_is, left_next}
 
 -- the lone machines after the first t turns
 abbrev pub lone : List (ℕ × ℕ) → List Machine → ℕ → List Machine
@@ -123,28 +124,24 @@ moved_blocks old new g block to is have = record {
 -- a turn and a move
 pub turned_and_moved : (kept : Option ℕ) (turns : List (ℕ × ℕ)) (first : List Machine) (began : Counts) (moved t g k taken block to : ℕ) (host turned after : Hosted) (left : List ℕ)
     (tally later : Counts) (moves more : ℕ) (d : ℕ × ℕ) → t < length turns → get_or turns t d ≡ (g, k) → Moving kept turns first began moved t host left tally moves
-    → IsTurn g k taken host.machines tally turned.machines later → turned.parts ≡ host.parts → turned.free ≡ host.free → turned.retired ≡ host.retired
-    → HasMoved turned g block to after → more ≡ moves + 1 → g < 16 → Between kept turns first began moved t g after left later more
-turned_and_moved kept turns first began moved t g k taken block to host turned after left tally later moves more d inside is inv turn parts free retired move raised guest =
+    → turned.machines ≡ with_turn g k host.machines → IsTurn (machine_at host.machines g) k (machine_at turned.machines g) taken
+    → Accounted (machine_at host.machines g) k taken tally later → KeepsShares host turned → HasMoved turned g block to after
+    → more ≡ moves + 1 → g < 16 → Between kept turns first began moved t g after left later more
+turned_and_moved kept turns first began moved t g k taken block to host turned after left tally later moves more d inside is inv machines made account shares move raised guest =
     let active = next_active kept turns first began moved t g k host left tally moves d inside is inv in
     let ms = lone turns first t in
     let next = lone_next turns first t g k d inside is in
     let here : machine_at host.machines g ≡ machine_at ms g = ap (λ ms. machine_at ms g) inv.machines ∙ active_one host.retired ms g active in
     let all : turned.machines ≡ hosted_as host.retired (lone turns first (t + 1)) =
-    turn.machines ∙ ap (with_turn g k) inv.machines ∙ active_turn (λ m. run m k) host.retired ms g active ∙ ap (hosted_as host.retired) (sym next) in
+    machines ∙ ap (with_turn g k) inv.machines ∙ active_turn (λ m. run m k) host.retired ms g active ∙ ap (hosted_as host.retired) (sym next) in
     let there : machine_at turned.machines g ≡ machine_at (lone turns first (t + 1)) g =
     ap (λ ms. machine_at ms g) all ∙ active_one host.retired (lone turns first (t + 1)) g active in
-    let flags : after.retired ≡ host.retired = move.retired ∙ retired in
+    let flags : after.retired ≡ host.retired = move.retired ∙ shares.retired in
     let left_now = left_is turns t g k d inside is in
     record {
       machines = move.machines ∙ all ∙ ap (λ flags. hosted_as flags (lone turns first (t + 1))) (sym flags);
-      turns_left = left_next turns first began t g k taken d ms tally (lone turns first (t + 1)) later inside is inv.turns_left (record {
-        machines = next;
-        made = rw (here, there) at turn.made;
-        most = turn.most;
-        room = rw (here, there) at turn.room;
-        account = rw here at turn.account;
-      });
+      turns_left = left_next turns first began t g k taken d ms tally (lone turns first (t + 1)) later inside is inv.turns_left next
+          (rw (here, there) at made) (rw here at account);
       flags = ap length flags ∙ inv.flags;
       size = inv.size;
       active = rw flags active;
@@ -154,8 +151,8 @@ turned_and_moved kept turns first began moved t g k taken block to host turned a
           let before = inv.gone h (rw flags at is_gone) in
           let apart : g ≢ h = λ e. both_ways (is_set host.retired g) active (rw (e, ← flags) is_gone) in
           sym (due_other kept h g k (drop (t + 1) turns) apart) ∙ ap (turns_due kept h) (sym left_now) ∙ before;
-      blocks = moved_blocks turned after g block to move (turned_blocks host turned (ap length turn.machines ∙ length_updated g (λ m. run m k) host.machines) parts retired inv.blocks);
-      free = omega (arith, move.count, ap count_set free, inv.free);
+      blocks = moved_blocks turned after g block to move (turned_blocks host turned (ap length machines ∙ length_updated g (λ m. run m k) host.machines) shares.parts shares.retired inv.blocks);
+      free = omega (arith, move.count, ap count_set shares.free, inv.free);
       counted = omega (arith, raised, inv.counted);
     }
 

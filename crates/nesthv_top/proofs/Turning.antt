@@ -8,7 +8,7 @@ use Rattle.std.proofs.lemmas.List.Sums.{sum_by-cons}
 use Rattle.machine_defs.specs.Fills.{most_tries}
 use Rattle.machine_defs.specs.Machine.{Machine}
 use Rattle.machine_defs.specs.Runs.{events, plain_count, run, trace_of}
-use Rattle.guest_turns.specs.Account.{Accounted}
+use Rattle.guest_turns.specs.Account.{Accounted, IsTurn}
 use Rattle.guest_turns.specs.Hosted.{machine_at, no_machine}
 use Rattle.guest_turns.specs.TurnLists.{entries_for, turn_entries, turn_events, with_turn, with_turns}
 use Rattle.guest_turns.proofs.Turns.{plain_then, trace_then}
@@ -29,14 +29,6 @@ pub record TurnsLeft (turns : List (ℕ × ℕ)) (first : List Machine) (began :
   pub taken_most : tally.taken + turn_steps (drop i turns) ≤ began.taken + turn_steps turns
   pub taken_least : began.taken + plain_count (turn_events turns first) ≤ tally.taken + plain_count (turn_events (drop i turns) ms)
   pub trace : (tally.trace + trace_of (turn_events (drop i turns) ms)) % 2 ^ 64 ≡ (began.trace + trace_of (turn_events turns first)) % 2 ^ 64
-
--- what a turn of at most k steps does to a machine and to the tally
-pub record IsTurn (g k taken : ℕ) (ms : List Machine) (tally : Counts) (after : List Machine) (later : Counts) : Type 0 where
-  pub machines : after ≡ with_turn g k ms
-  pub made : (machine_at ms g).platform.steps + taken ≡ (machine_at after g).platform.steps
-  pub most : taken ≤ k
-  pub room : (machine_at after g).entry_room ≡ (machine_at ms g).entry_room
-  pub account : Accounted (machine_at ms g) k taken tally later
 
 steps_more : (g k : ℕ) (turns : List (ℕ × ℕ)) → turn_steps ((g, k) ∷ turns) ≡ k + turn_steps turns
 steps_more g k turns = sum_by-cons (λ turn. turn.1) (g, k) turns
@@ -91,8 +83,9 @@ rooms_after g k j ms after is own = by (cases_Bool (g == j))
 -- one turn more
 pub left_next : (turns : List (ℕ × ℕ)) (first : List Machine) (began : Counts) (i g k taken : ℕ) (d : ℕ × ℕ) (ms : List Machine) (tally : Counts)
     (after : List Machine) (later : Counts) → i < length turns → get_or turns i d ≡ (g, k) → TurnsLeft turns first began i ms tally
-    → IsTurn g k taken ms tally after later → TurnsLeft turns first began (i + 1) after later
-left_next turns first began i g k taken d ms tally after later inside is before turn =
+    → after ≡ with_turn g k ms → IsTurn (machine_at ms g) k (machine_at after g) taken → Accounted (machine_at ms g) k taken tally later
+    → TurnsLeft turns first began (i + 1) after later
+left_next turns first began i g k taken d ms tally after later inside is before machines made account =
     let left = drop (i + 1) turns in
     let e : drop i turns ≡ (g, k) ∷ left = left_is turns i g k d inside is in
     let all : turn_steps (drop i turns) ≡ k + turn_steps left = ap turn_steps e ∙ steps_more g k left in
@@ -100,21 +93,21 @@ left_next turns first began i g k taken d ms tally after later inside is before 
     ap (entries_for first) e ∙ entries_more first g k left in
     let room : turn_entries (machine_at ms g).entry_room k ≡ turn_entries (machine_at first g).entry_room k = ap (λ room. turn_entries room k) (before.rooms g) in
     let plain : plain_count (turn_events (drop i turns) ms) ≡ plain_count (events (machine_at ms g) k) + plain_count (turn_events left after) =
-    rw (e, turn.machines) (plain_more g k left ms) in
+    rw (e, machines) (plain_more g k left ms) in
     let trace : trace_of (turn_events (drop i turns) ms) ≡ trace_of (events (machine_at ms g) k) + trace_of (turn_events left after) =
-    rw (e, turn.machines) (trace_more g k left ms) in
+    rw (e, machines) (trace_more g k left ms) in
     record {
-      machines = ap (with_turns left) turn.machines ∙ ap (λ turns. with_turns turns ms) (sym e) ∙ before.machines;
-      count = ap length turn.machines ∙ length_updated g (λ m. run m k) ms ∙ before.count;
+      machines = ap (with_turns left) machines ∙ ap (λ turns. with_turns turns ms) (sym e) ∙ before.machines;
+      count = ap length machines ∙ length_updated g (λ m. run m k) ms ∙ before.count;
       steps = λ j h.
-          let there : j < length ms = rw (turn.machines, length_updated g (λ m. run m k) ms) at h in
-          steps_after g k taken j (turn_steps left) (2 ^ 60 + turn_steps turns) ms after turn.machines turn.made turn.most (rw all at (before.steps j there));
-      entries_grow = omega (arith, before.entries_grow, turn.account.entries_grow);
-      rooms = λ j. rooms_after g k j ms after turn.machines turn.room ∙ before.rooms j;
-      entries_most = omega (arith, entries, room, before.entries_most, turn.account.entries_most);
-      taken_most = omega (arith, all, before.taken_most, turn.account.taken_most, turn.most);
-      taken_least = omega (arith, plain, before.taken_least, turn.account.taken_least);
-      trace = omega (arith, trace, before.trace, turn.account.trace);
+          let there : j < length ms = rw (machines, length_updated g (λ m. run m k) ms) at h in
+          steps_after g k taken j (turn_steps left) (2 ^ 60 + turn_steps turns) ms after machines made.steps made.most (rw all at (before.steps j there));
+      entries_grow = omega (arith, before.entries_grow, account.entries_grow);
+      rooms = λ j. rooms_after g k j ms after machines made.room ∙ before.rooms j;
+      entries_most = omega (arith, entries, room, before.entries_most, account.entries_most);
+      taken_most = omega (arith, all, before.taken_most, account.taken_most, made.most);
+      taken_least = omega (arith, plain, before.taken_least, account.taken_least);
+      trace = omega (arith, trace, before.trace, account.trace);
     }
 
 -- the room of the machine of a guest that there is not

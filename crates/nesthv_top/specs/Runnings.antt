@@ -99,11 +99,6 @@ pub record CanMove (host : Hosted) (kept : Option ℕ) : Type 0 where
   pub flags : length host.retired ≡ 16
   pub there : IfSome kept (λ g. g < length host.machines)
 
--- a host has this guest, which has not retired
-pub record IsActive (host : Hosted) (guest : ℕ) : Type 0 where
-  pub there : guest < length host.machines
-  pub active : is_set host.retired guest ≡ false
-
 -- the account of a plan's turns
 pub record CountsTurns (plan : Plan) (old new : Counts) : Type 0 where
   pub entries_grow : old.entries ≤ new.entries

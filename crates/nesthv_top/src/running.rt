@@ -4,14 +4,14 @@ ghost use Rattle.std.specs.Prelude.{◌≡◌, ℕ, ◌+◌, ◌%◌, ◌^◌, �
 ghost use Rattle.std.specs.List.{All};
 ghost use Rattle.outside.specs.Faults.{Rose};
 ghost use Rattle.outside.specs.Pieces.{Puts};
-ghost use Rattle.guest_turns.specs.Hosted.{count_set, is_set, lowest, part_at, KeepsShares};
+ghost use Rattle.guest_turns.specs.Hosted.{count_set, is_set, lowest, part_at, IsActive, KeepsShares};
 ghost use Rattle.guest_turns.specs.Moves.{HasMoved};
 ghost use Rattle.guest_turns.specs.TurnLists.{with_turns};
 ghost use Rattle.run_config.specs.Configurations.{IsGuestWithin};
 ghost use Rattle.nesthv_top.specs.Plans.{AllRunAsWritten, report_of};
 ghost use Rattle.nesthv_top.specs.Moving.{kept_turn, own_turns};
 ghost use Rattle.nesthv_top.specs.Performed.{HasSaved};
-ghost use Rattle.nesthv_top.specs.Runnings.{sections_of, AreCountsOf, CanMove, CountsTurnsOf, HasRoomForCommand, HasRoomForRun, HaveBlocks, IsActive, IsReady};
+ghost use Rattle.nesthv_top.specs.Runnings.{sections_of, AreCountsOf, CanMove, CountsTurnsOf, HasRoomForCommand, HasRoomForRun, HaveBlocks, IsReady};
 ghost use Rattle.nesthv_top.specs.HostedRuns.{CanRun, HasCounted, HasMadeTurns, HasRunPlan};
 ghost use Rattle.nesthv_top.specs.Seen.{as_plan, names_in, plan_seen, IsJob};
 ghost use Rattle.nesthv_top.specs.Written.{Writes};

@@ -17,12 +17,9 @@ use Rattle.guest_turns.specs.declared.sources.Source.{Source}
 abbrev IsSmall : GuestSpec → Type 0
 IsSmall spec = need_of spec ≡ record { blocks = 1; spaces = 1; entries = 16 }
 
-small_frames : (a : GuestSpec) → IsSmall a → frames_needed (need_of a) ≡ 569
-small_frames a is = ap frames_needed is
-
 -- two guests of one block
 pub two_fit : (a b : GuestSpec) → IsSmall a → IsSmall b → frames_for (a ∷ b ∷ []) ≤ 1138
-two_fit a b one other = omega (arith, small_frames a one, small_frames b other)
+two_fit a b one other = omega (arith, ap frames_needed one, ap frames_needed other)
 
 pub two_boot : (a b : GuestSpec) → IsBootable a → IsBootable b → IsSmall a → IsSmall b → AreBootable (a ∷ b ∷ [])
 two_boot a b boots too one other = record {

@@ -12,14 +12,13 @@ pub key-key-requires : goal.key-key-requires
 key-key-requires c =
     (folding_front c.args.guest.now c.args.memory.now c.args.access.now c.in-Some.entry c.requires.left.can.placed (sym c.entry_for.ensures.entry ∙ c.in-Some.is)).some
 
-pub fill-requires-clause-held : goal.fill-requires-clause-held
-fill-requires-clause-held c =
-    let front = folding_front c.args.guest.now c.args.memory.now c.args.access.now c.in-Some.entry c.requires.left.can.placed (sym c.entry_for.ensures.entry ∙ c.in-Some.is) in
-    rw c.key-key.ensures (front_held _ (spaces_of c.args.guest.now.pool) front.first)
-
 pub fill-requires-clause-entry : goal.fill-requires-clause-entry
 fill-requires-clause-entry c =
-    can_fill c.args.guest.now c.args.memory.now c.args.access.now c.in-Some.entry c.requires.left.can.placed (sym c.entry_for.ensures.entry ∙ c.in-Some.is)
+    let front = folding_front c.args.guest.now c.args.memory.now c.args.access.now c.in-Some.entry c.requires.left.can.placed (sym c.entry_for.ensures.entry ∙ c.in-Some.is) in
+    record {
+      held = rw c.key-key.ensures (front_held _ (spaces_of c.args.guest.now.pool) front.first);
+      entry = can_fill c.args.guest.now c.args.memory.now c.args.access.now c.in-Some.entry c.requires.left.can.placed (sym c.entry_for.ensures.entry ∙ c.in-Some.is);
+    }
 
 pub returns-in-Some-clause-made : goal.returns-in-Some-clause-made
 returns-in-Some-clause-made c =

@@ -4,7 +4,7 @@ use Rattle.machine_defs.specs.Tries.{mmu_of}
 use Rattle.hosted_steps.specs.ExitCases.{found_next}
 use Rattle.guest_exit.specs.View.{machine_of}
 use Rattle.hcsr_emulation.proofs.Decided.{kind_decided}
-use Rattle.guest_exit.proofs.Decided.{caching_storable, decided_made, done_storable, kept_first}
+use Rattle.guest_exit.proofs.Decided.{decided_made, done_storable, kept_first}
 use Rattle.guest_exit.proofs.system.access_registers.Goals as goal
 
 pub finish-requires : goal.finish-requires
@@ -14,8 +14,8 @@ finish-requires c =
       can = record {
         step = search rules;
         holds = search rules;
-        storable = caching_storable _ c.access.new.state
-            (done_storable m c.args.op.now c.access.new.state (kind_decided c.args.op.now c.requires.kind) c.requires.left.can.placed.storable (c.in-Done.ensures.ends (mmu_of m)));
+        storable = done_storable m c.args.op.now c.access.new.state _ (kind_decided c.args.op.now c.requires.kind) c.requires.left.can.placed.storable
+            (c.in-Done.ensures.ends (mmu_of m));
       };
     }
 

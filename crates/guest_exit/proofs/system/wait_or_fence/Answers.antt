@@ -7,7 +7,7 @@ use Rattle.rv64_asm.specs.Words.{encoded}
 use Rattle.hosted_steps.specs.ExitCases.{found_next, having_found}
 use Rattle.guest_exit.specs.View.{machine_of}
 use Rattle.guest_exit.proofs.Alone.{wait_made, wait_told, waited_is_quiet}
-use Rattle.guest_exit.proofs.Decided.{accesses_never, caching_storable, decided_made, done_storable, kept_first, wait_is_op, wait_passes}
+use Rattle.guest_exit.proofs.Decided.{accesses_never, decided_made, done_storable, kept_first, wait_is_op, wait_passes}
 use Rattle.guest_exit.proofs.system.wait_or_fence.Goals as goal
 
 pub emulate-requires-clause-decided : goal.emulate-requires-clause-decided
@@ -54,8 +54,8 @@ finish-requires c =
       can = record {
         step = search rules;
         holds = search rules;
-        storable = caching_storable _ c.emulate.new.state
-            (done_storable m c.args.op.now c.emulate.new.state (wait_is_op c.args.op.now c.requires.kind).decided c.requires.left.can.placed.storable (c.in-Done.ensures.ends (mmu_of m)));
+        storable = done_storable m c.args.op.now c.emulate.new.state _ (wait_is_op c.args.op.now c.requires.kind).decided c.requires.left.can.placed.storable
+            (c.in-Done.ensures.ends (mmu_of m));
       };
     }
 

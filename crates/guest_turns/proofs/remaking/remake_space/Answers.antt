@@ -28,7 +28,7 @@ loop-j-init c =
           ∙ enters_before m.space_room c.args.i m.spaces no_space c.can_be_saved.ensures.few c.requires.space c.can_be_saved.ensures.keys;
       fits = fits_after m c.args.pool.now c.enter.new.self c.args.memory.now c.enter.new.mem c.requires.fits c.enter.ensures.keeps;
       keeps = c.enter.ensures.keeps;
-      tidy = c.enter.ensures.tidy;
+      tidy = c.enter.ensures.folded.tidy;
     }
 
 pub entry-requires-clause-place : goal.entry-requires-clause-place
@@ -36,24 +36,20 @@ entry-requires-clause-place c d =
     let same = same_space c.args.saved.now.machine.spaces c.args.i d no_space c.requires.space in
     omega (arith, c.loop-j-test.true, c.len-j-end.ensures no_space, ap (λ s. length s.entries) same)
 
-pub fill-requires-clause-held : goal.fill-requires-clause-held
-fill-requires-clause-held c =
-    let m = c.args.saved.now.machine in
-    let s = space_at m.spaces c.args.i in
-    let own : IsSavableSpace (length m.ram) m.entry_room m.device s = c.can_be_saved.ensures.spaces c.args.i no_space c.requires.space in
-    let key : c.of-key.result ≡ s.key = c.of-key.ensures ∙ ap (λ key. guest_root_of (hgatp_bits key)) (c.key.ensures no_space) ∙ own.key.stored in
-    rw c.loop-j.invariant.spaces (front_held c.of-key.result (partly c.loop-j.j s (drop (c.args.i + 1) m.spaces)) (sym key))
-
 pub fill-requires-clause-entry : goal.fill-requires-clause-entry
 fill-requires-clause-entry c =
     let m = c.args.saved.now.machine in
     let s = space_at m.spaces c.args.i in
     let own : IsSavableSpace (length m.ram) m.entry_room m.device s = c.can_be_saved.ensures.spaces c.args.i no_space c.requires.space in
+    let key : c.of-key.result ≡ s.key = c.of-key.ensures ∙ ap (λ key. guest_root_of (hgatp_bits key)) (c.key.ensures no_space) ∙ own.key.stored in
     let inside : c.loop-j.j < length s.entries = omega (arith, c.loop-j-test.true, c.len-j-end.ensures no_space) in
     let size : length m.ram ≡ length c.loop-j.pool.part.blocks * block_size = c.can_be_saved.ensures.sizes.whole ∙ ap (λ n. n * block_size) (sym c.loop-j.invariant.fits.blocks) in
     let entry = own.entries c.loop-j.j c.entry.result inside in
-    subst (CanFill c.loop-j.pool.part.blocks) (sym (c.entry.ensures no_space))
-    (savable_is_filled s.key c.loop-j.pool.part.blocks m.device (slice_index_or s.entries c.loop-j.j c.entry.result) (subst (λ n. IsSavableEntry s.key n m.device (slice_index_or s.entries c.loop-j.j c.entry.result)) size entry))
+    record {
+      held = rw c.loop-j.invariant.spaces (front_held c.of-key.result (partly c.loop-j.j s (drop (c.args.i + 1) m.spaces)) (sym key));
+      entry = subst (CanFill c.loop-j.pool.part.blocks) (sym (c.entry.ensures no_space))
+          (savable_is_filled s.key c.loop-j.pool.part.blocks m.device (slice_index_or s.entries c.loop-j.j c.entry.result) (subst (λ n. IsSavableEntry s.key n m.device (slice_index_or s.entries c.loop-j.j c.entry.result)) size entry));
+    }
 
 pub loop-j-preserved : goal.loop-j-preserved
 loop-j-preserved c =
@@ -75,7 +71,7 @@ loop-j-preserved c =
           ∙ fills_next m.entry_room c.loop-j.j s others c.entry.result own.few inside own.pages;
       fits = fits_after m c.loop-j.pool c.fill.new.self c.loop-j.memory c.fill.new.mem c.loop-j.invariant.fits c.fill.ensures.keeps;
       keeps = keeps_both c.args.pool.now c.loop-j.pool c.fill.new.self c.args.memory.now c.loop-j.memory c.fill.new.mem c.loop-j.invariant.keeps c.fill.ensures.keeps;
-      tidy = c.fill.ensures.tidy;
+      tidy = c.fill.ensures.folded.tidy;
     }
 
 pub returns : goal.returns

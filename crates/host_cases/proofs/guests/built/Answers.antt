@@ -4,9 +4,6 @@ use Rattle.arch_defs.specs.Layouts.{named_by}
 use Rattle.guest_exit.proofs.Placed.{placed_built}
 use Rattle.host_cases.proofs.guests.built.Goals as goal
 
-small : (size old new : ℕ) → size ≡ old → new ≡ old → size ≤ 131072 * 4096 → new ≤ 2 ^ 29
-small size old new is same most = omega (arith, is, same, most)
-
 pub returns : goal.returns
 returns c =
     let only = c.build.ensures.only in
@@ -15,7 +12,7 @@ returns c =
     placed_built c.args.guest.now c.build.new.mem (1024 * 4096)
     (record { few = once.few; distinct = once.distinct; aligned = once.aligned; tables = once.tables; roots = once.roots })
     (record {
-      size = small c.size-size.result _ _ c.size-size.ensures.size only.size c.size-size.ensures.most;
+      size = omega (arith, c.size-size.ensures.size, only.size, c.size-size.ensures.most);
       lies = rw (only.size, ← c.size-size.ensures.size) lies;
       table = c.build.ensures.table;
     })

@@ -33,7 +33,7 @@ run_moving-requires-clause-ready c =
     let machines : length c.in_ok-host.host.machines ≡ length c.args.plan.sources.items = ap length c.in_ok-host.ensures.machines ∙ length-map c.args.plan.sources.items machine_of_source in
     record {
       steps = c.in_ok-host.ensures.steps;
-      active = c.in_ok-host.ensures.active;
+      active = c.in_ok-host.ensures.begins.active;
       rooms = c.rooms_are_small.ensures;
       few = c.requires.plan.few;
       short = subst (λ n. All (IsTurnWithin n) c.args.plan.turns.now) (sym machines) c.requires.plan.short;
@@ -52,9 +52,9 @@ run_moving-requires-clause-movable c =
             let meets = parts.meet g (need_of_source no_source) no_part (rw (length-map c.args.plan.sources.items need_of_source) there) in
             omega (arith, meets.blocks, ap (λ need. need.blocks) (get_or-map need_of_source c.args.plan.sources.items g no_source (need_of_source no_source) there), needs_block guest (c.requires.plan.sources.each g no_source there));
       };
-      free = omega (arith, c.in_ok-host.ensures.count, c.if-spare-eq0.false);
+      free = omega (arith, c.in_ok-host.ensures.begins.count, c.if-spare-eq0.false);
       guests = omega (arith, machines, c.requires.plan.sources.few);
-      flags = c.in_ok-host.ensures.flags;
+      flags = c.in_ok-host.ensures.begins.flags;
       there = subst (λ n. IfSome c.args.kept (λ g. g < n)) (sym machines) c.requires.plan.there;
     }
 
@@ -78,7 +78,7 @@ returns-clause-ran c =
     let booted = c.in_ok-host.ensures in
     let first = machines_of_sources sources in
     let count : length c.in_ok-host.host.machines ≡ length sources = ap length booted.machines ∙ length-map sources machine_of_source in
-    let are : AreBooted (needs_of_sources sources) c.args.plan.spare (shares_of c.in_ok-host.host) = record { parts = booted.parts; free = booted.free; active = booted.active } in
+    let are : AreBooted (needs_of_sources sources) c.args.plan.spare (shares_of c.in_ok-host.host) = record { parts = booted.parts; free = booted.begins.free; active = booted.begins.active } in
     elim c.if-spare-eq0.branch [
       | then-spare-eq0 w ↦
           let run = w.run_turns.ensures in

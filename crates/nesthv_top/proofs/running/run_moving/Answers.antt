@@ -23,39 +23,29 @@ loop-t-init c = record {
   shares = refl;
 }
 
-pub turn-requires-clause-guest : goal.turn-requires-clause-guest
-turn-requires-clause-guest c =
-    let inv = c.loop-t.invariant.moving in
-    omega (arith, (c.requires.ready.short c.loop-t.t (0, 0) c.loop-t-test.true).guest, inv.turns_left.count, ap length inv.machines, as_many_hosted c.loop-t.host.retired (lone c.args.turns.now c.args.host.now.machines c.loop-t.t))
-
-pub turn-requires-clause-active : goal.turn-requires-clause-active
-turn-requires-clause-active c =
-    let turn = get_or c.args.turns.now c.loop-t.t (0, 0) in
-    next_active c.args.kept c.args.turns.now _ _ _ c.loop-t.t turn.0 turn.1 c.loop-t.host _ _ _ (0, 0) c.loop-t-test.true refl c.loop-t.invariant.moving
-
-pub turn-requires-clause-steps : goal.turn-requires-clause-steps
-turn-requires-clause-steps c =
+pub turn-requires : goal.turn-requires
+turn-requires c =
     let inv = c.loop-t.invariant.moving in
     let turn = get_or c.args.turns.now c.loop-t.t (0, 0) in
     let ms = lone c.args.turns.now c.args.host.now.machines c.loop-t.t in
+    let short = c.requires.ready.short c.loop-t.t (0, 0) c.loop-t-test.true in
     let active = next_active c.args.kept c.args.turns.now _ _ _ c.loop-t.t turn.0 turn.1 c.loop-t.host _ _ _ (0, 0) c.loop-t-test.true refl inv in
     let here : machine_at c.loop-t.host.machines turn.0 ≡ machine_at ms turn.0 = ap (λ ms. machine_at ms turn.0) inv.machines ∙ active_one c.loop-t.host.retired ms turn.0 active in
     let b = bounded _ c.args.turns.now _ _ c.loop-t.t (0, 0) _ _ c.requires.ready.few c.requires.ready.short c.loop-t-test.true inv.turns_left in
-    let inside : turn.0 < length ms = rw inv.turns_left.count (c.requires.ready.short c.loop-t.t (0, 0) c.loop-t-test.true).guest in
-    rw here (omega (arith, b.0, b.1, inv.turns_left.steps turn.0 inside))
-
-pub turn-requires-clause-room : goal.turn-requires-clause-room
-turn-requires-clause-room c =
-    let inv = c.loop-t.invariant.moving in
-    let turn = get_or c.args.turns.now c.loop-t.t (0, 0) in
-    let ms = lone c.args.turns.now c.args.host.now.machines c.loop-t.t in
-    let active = next_active c.args.kept c.args.turns.now _ _ _ c.loop-t.t turn.0 turn.1 c.loop-t.host _ _ _ (0, 0) c.loop-t-test.true refl inv in
-    let here : machine_at c.loop-t.host.machines turn.0 ≡ machine_at ms turn.0 = ap (λ ms. machine_at ms turn.0) inv.machines ∙ active_one c.loop-t.host.retired ms turn.0 active in
-    let b = bounded _ c.args.turns.now _ _ c.loop-t.t (0, 0) _ _ c.requires.ready.few c.requires.ready.short c.loop-t-test.true inv.turns_left in
-    rw here (record {
-      entries = entries_left _ c.args.turns.now _ _ c.loop-t.t (0, 0) _ _ c.requires.ready.few c.requires.ready.short c.requires.ready.rooms c.loop-t-test.true inv.turns_left c.requires.room.account.entries;
-      taken = omega (arith, b.0, b.1, inv.turns_left.taken_most, c.requires.room.account.taken);
-    })
+    let inside : turn.0 < length ms = rw inv.turns_left.count short.guest in
+    record {
+      can = record {
+        guest = record {
+          there = omega (arith, short.guest, inv.turns_left.count, ap length inv.machines, as_many_hosted c.loop-t.host.retired ms);
+          active = active;
+        };
+        steps = rw here (omega (arith, b.0, b.1, inv.turns_left.steps turn.0 inside));
+        room = rw here (record {
+          entries = entries_left _ c.args.turns.now _ _ c.loop-t.t (0, 0) _ _ c.requires.ready.few c.requires.ready.short c.requires.ready.rooms c.loop-t-test.true inv.turns_left c.requires.room.account.entries;
+          taken = omega (arith, b.0, b.1, inv.turns_left.taken_most, c.requires.room.account.taken);
+        });
+      };
+    }
 
 pub move_block-requires-clause-guest : goal.move_block-requires-clause-guest
 move_block-requires-clause-guest c =
@@ -122,13 +112,8 @@ loop-t-preserved c =
     let turn = get_or c.args.turns.now c.loop-t.t (0, 0) in
     let few : turn.0 < 16 = omega (arith, (c.requires.ready.short c.loop-t.t (0, 0) c.loop-t-test.true).guest, c.requires.movable.guests) in
     let between = turned_and_moved c.args.kept c.args.turns.now c.args.host.now.machines c.args.tally.now c.args.moves.now c.loop-t.t turn.0 turn.1 c.turn.result _ _ c.loop-t.host c.turn.new.self
-    c.move_block.new.host c.loop-t.left c.loop-t.tally c.turn.new.tally c.loop-t.moves c.move_block.new.moves (0, 0) c.loop-t-test.true refl c.loop-t.invariant.moving (record {
-      machines = c.turn.ensures.machines;
-      made = c.turn.ensures.made;
-      most = c.turn.ensures.most;
-      room = c.turn.ensures.room;
-      account = c.turn.ensures.account;
-    }) c.turn.ensures.shares.parts c.turn.ensures.shares.free c.turn.ensures.shares.retired c.move_block.ensures.moved c.move_block.ensures.counted few in
+    c.move_block.new.host c.loop-t.left c.loop-t.tally c.turn.new.tally c.loop-t.moves c.move_block.new.moves (0, 0) c.loop-t-test.true refl c.loop-t.invariant.moving
+    c.turn.ensures.machines c.turn.ensures.made c.turn.ensures.account c.turn.ensures.shares c.move_block.ensures.moved c.move_block.ensures.counted few in
     let now = left_now c.args.kept c.args.turns.now c.args.host.now.machines c.args.tally.now c.args.moves.now c.loop-t.t turn.0 c.move_block.new.host c.loop-t.left c.turn.new.tally
     c.move_block.new.moves few between in
     elim c.if-left-guest-eq0.branch [

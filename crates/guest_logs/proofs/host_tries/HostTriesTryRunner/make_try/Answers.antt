@@ -3,17 +3,16 @@ use Rattle.guest_turns.specs.Tries.{HasTried}
 use Rattle.guest_logs.proofs.Alone.{filled_behind, tried_alone, tried_is, try_most}
 use Rattle.guest_logs.proofs.host_tries.HostTriesTryRunner.make_try.Goals as goal
 
-pub make_try-made-requires-clause-guest : goal.make_try-made-requires-clause-guest
-make_try-made-requires-clause-guest c = omega (arith, c.self.invariant.one)
-
-pub make_try-made-requires-clause-active : goal.make_try-made-requires-clause-active
-make_try-made-requires-clause-active c = c.self.invariant.active 0
-
-pub make_try-made-requires-clause-running : goal.make_try-made-requires-clause-running
-make_try-made-requires-clause-running c = rw c.self.view_is c.requires.running
-
-pub make_try-made-requires-clause-steps : goal.make_try-made-requires-clause-steps
-make_try-made-requires-clause-steps c = rw c.self.view_is c.requires.early
+pub make_try-made-requires : goal.make_try-made-requires
+make_try-made-requires c = record {
+  can = record {
+    guest = record { there = omega (arith, c.self.invariant.one); active = c.self.invariant.active 0 };
+    running = rw c.self.view_is c.requires.running;
+    steps = rw c.self.view_is c.requires.early;
+    entries = rw c.new.ensures (omega arith);
+    taken = rw c.new.ensures (omega arith);
+  };
+}
 
 pub answered-requires-clause-alone : goal.answered-requires-clause-alone
 answered-requires-clause-alone c =
@@ -23,7 +22,7 @@ pub answered-requires-clause-some : goal.answered-requires-clause-some
 answered-requires-clause-some c = λ is.
     let old = c.self.inside.host.machines in
     let new = c.make_try-made.new.self.machines in
-    filled_behind c.args.self.now old new (sym c.self.view_is) c.self.invariant.one c.tries_make_steps.ensures.entry (rw c.self.view_is at c.make_try-made.ensures.needed)
+    filled_behind c.args.self.now old new (sym c.self.view_is) c.self.invariant.one c.tries_make_steps.ensures.entry (rw c.self.view_is at c.make_try-made.ensures.room.enough)
     (subst (λ made. HasTried made 0 old new) is c.make_try-made.ensures.machines)
 
 pub invariant_of-self : goal.invariant_of-self
@@ -33,7 +32,7 @@ invariant_of-self c =
 pub returns-clause-tried : goal.returns-clause-tried
 returns-clause-tried c =
     tried_is c.make_try-made.result c.args.self.now c.self.inside.host.machines c.make_try-made.new.self.machines c.answered.result (sym c.self.view_is)
-    c.self.invariant.one c.tries_make_steps.ensures.entry (rw c.self.view_is at c.make_try-made.ensures.needed) c.make_try-made.ensures.machines c.answered.ensures
+    c.self.invariant.one c.tries_make_steps.ensures.entry (rw c.self.view_is at c.make_try-made.ensures.room.enough) c.make_try-made.ensures.machines c.answered.ensures
 
 pub returns-clause-most : goal.returns-clause-most
 returns-clause-most c =

@@ -4,16 +4,15 @@ use Rattle.machine_defs.specs.Runs.{events, plain_count, run}
 use Rattle.guest_logs.proofs.Alone.{changed_one, still_alone}
 use Rattle.guest_logs.proofs.host_tries.HostTriesTryRunner.run_plain.Goals as goal
 
-pub run_plain-requires-clause-guest : goal.run_plain-requires-clause-guest
-run_plain-requires-clause-guest c = omega (arith, c.self.invariant.one)
-
-pub run_plain-requires-clause-active : goal.run_plain-requires-clause-active
-run_plain-requires-clause-active c = c.self.invariant.active 0
-
-pub run_plain-requires-clause-room : goal.run_plain-requires-clause-room
-run_plain-requires-clause-room c =
-    rw (c.new.ensures, c.self.view_is)
-    (record { steps = c.requires.early; entries = omega arith; taken = omega (arith, c.requires.early) })
+pub run_plain-requires : goal.run_plain-requires
+run_plain-requires c = record {
+  can = record {
+    guest = record { there = omega (arith, c.self.invariant.one); active = c.self.invariant.active 0 };
+    room =
+        rw (c.new.ensures, c.self.view_is)
+        (record { steps = c.requires.early; entries = omega arith; taken = omega (arith, c.requires.early) });
+  };
+}
 
 pub invariant_of-self : goal.invariant_of-self
 invariant_of-self c =

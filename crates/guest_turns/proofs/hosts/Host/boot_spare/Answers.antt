@@ -1,13 +1,12 @@
-use Rattle.std.proofs.Common.{◌≡◌, ℕ, length, map, subst, ap, sym, ◌∙◌, arith}
+use Rattle.std.proofs.Common.{◌≡◌, length, map, subst, ap, sym, ◌∙◌, arith}
 use Rattle.std.specs.Prelude.{IfOk}
 use Rattle.std.specs.List.{All}
 use Rattle.std.proofs.lemmas.List.{length-map}
 use Rattle.std.proofs.lemmas.Result.{IfOk-weaker}
-use Rattle.arch_defs.specs.Frames.{within}
 use Rattle.frame_split.specs.Shares.{IsSplit, blocks_of_all, frames_with}
 use Rattle.machine_defs.specs.Machine.{start}
 use Rattle.guest_turns.specs.declared.sources.Source.TheVariants.{Fresh}
-use Rattle.guest_turns.specs.Hosted.{is_set}
+use Rattle.guest_turns.specs.Hosted.{BeginsWith}
 use Rattle.guest_turns.specs.Sources.{IsBootableSource, machines_of_sources, needs_of_sources}
 use Rattle.guest_turns.proofs.Savables.{fresh_each, fresh_machines, fresh_needs}
 use Rattle.guest_turns.proofs.Starting.{none_made}
@@ -24,10 +23,10 @@ boot_from-requires-clause-bootable c =
       each = subst (All IsBootableSource) (sym is) (fresh_each specs c.requires.bootable.each);
     }
 
-pub boot_from-requires-clause-frames : goal.boot_from-requires-clause-frames
-boot_from-requires-clause-frames c =
+pub boot_from-requires-clause-room : goal.boot_from-requires-clause-room
+boot_from-requires-clause-room c =
     let needs = ap needs_of_sources c.in_ok-fresh_sources.ensures ∙ fresh_needs c.args.guests.items in
-    rw needs c.requires.frames
+    rw needs c.requires.room
 
 pub returns-clause-machines : goal.returns-clause-machines
 returns-clause-machines c =
@@ -46,7 +45,7 @@ returns-clause-fresh c =
     (subst (λ machines. IfOk c.boot_from.result (λ host. host.machines ≡ machines))
     (ap machines_of_sources c.in_ok-fresh_sources.ensures ∙ fresh_machines c.args.guests.items) c.boot_from.ensures.machines)
 
-pub returns-clause-free : goal.returns-clause-free
-returns-clause-free c =
-    subst (λ needs. IfOk c.boot_from.result (λ host. (block : ℕ) → is_set host.free block ≡ within (blocks_of_all needs) c.args.spare block))
-    (ap needs_of_sources c.in_ok-fresh_sources.ensures ∙ fresh_needs c.args.guests.items) c.boot_from.ensures.free
+pub returns-clause-begins : goal.returns-clause-begins
+returns-clause-begins c =
+    subst (λ needs. IfOk c.boot_from.result (BeginsWith (blocks_of_all needs) c.args.spare))
+    (ap needs_of_sources c.in_ok-fresh_sources.ensures ∙ fresh_needs c.args.guests.items) c.boot_from.ensures.begins
