@@ -8,7 +8,7 @@ use Rattle.arch_defs.specs.CachedEntries.{entry_at, leaf_of}
 use Rattle.arch_defs.specs.Permits.{permits_second}
 use Rattle.arch_defs.specs.WalkedEntries.{folds}
 use Rattle.run_log.specs.declared.uses.Use.{Use}
-use Rattle.run_log.specs.declared.uses.Use.TheVariants.{First, Second}
+use Rattle.run_log.specs.declared.uses.Use.TheVariants.{Second}
 use Rattle.run_log.specs.Uses.{second_if, second_uses}
 use Rattle.cached_uses.specs.Serving.{second_list, second_permitted, second_served}
 

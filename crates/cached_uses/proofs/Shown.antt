@@ -1,5 +1,5 @@
 -- The leaf of a walk, as the log shows it.
-use Rattle.std.proofs.Common.{◌≡◌, ap, ◌∙◌, ℕ, Option, Some, option_map}
+use Rattle.std.proofs.Common.{◌≡◌, ap, ◌∙◌, ℕ, Some, option_map}
 use Rattle.arch_defs.specs.declared.first.Tag.{Tag}
 use Rattle.arch_defs.specs.declared.modes.Access.{Access}
 use Rattle.arch_defs.specs.declared.registers.Virtual.{Virtual}

@@ -1,7 +1,8 @@
 -- Cached translations that serve an access, and what the accesses of a state go through (own, within what
 -- Privileged Architecture 20211203, 4.2.1, 8.3.2 and 8.5, permits).
 use Rattle.std.specs.Prelude.{ℕ, ◌≡◌, ◌+◌, ◌*◌, ◌/◌, ◌<◌, ◌≤◌, ◌⊎◌, ◌^◌, List, [], ◌∷◌, Option, Some, None, ◌%◌, ◌++◌, find, length, map, if◌then◌else◌}
-use Rattle.std.specs.List.{flat_map}
+use Rattle.std.specs.List.{All, flat_map}
+use Rattle.arrayvec.specs.ArrayVec.{ArrayVec, array_vec_len}
 use Rattle.arch_defs.specs.declared.cached.Entry.{Entry}
 use Rattle.arch_defs.specs.declared.first.FirstEntry.{FirstEntry}
 use Rattle.arch_defs.specs.declared.modes.Access.{Access}
@@ -23,9 +24,11 @@ use Rattle.arch_defs.specs.WalkedEntries.{folds}
 use Rattle.machine_defs.specs.FirstLeaves.{known_of, tag_of}
 use Rattle.machine_defs.specs.Machine.{Machine}
 use Rattle.machine_defs.specs.Tries.{mmu_of}
+use Rattle.phys_mem.specs.declared.accesses.Mem as mems
 use Rattle.run_log.specs.declared.uses.Use.{Use}
 use Rattle.run_log.specs.declared.uses.Use.TheVariants.{First, Second}
 use Rattle.run_log.specs.Uses.{passed_uses, second_uses}
+use Rattle.cached_uses.specs.declared.front_mmu.FrontMmu.{FrontMmu}
 
 -- the translation of the first stage that serves an access, if there is one
 abbrev pub first_permitted : Privilege → Access → Option FirstEntry → Option FirstEntry
@@ -84,6 +87,20 @@ pub record LeadsInto (memory : Memory) (e : Entry) : Type 0 where
 abbrev pub FilledLeadInto : Type 0
 FilledLeadInto = (blocks ram : List ℕ) (e : Entry) → length blocks ≤ 2 ^ 30
     → length ram ≡ length blocks * block_size → CanFill blocks e → LeadsInto (ram_memory ram) e
+
+-- what they go through, by the parts that the code keeps of it
+abbrev pub mmu_of_front : {Y : Type 0} → mems.Ghosts Y → FrontMmu Y → Mmu
+mmu_of_front M front = mmu_through front.virt.now front.entries.now (M.memory front.mem.now)
+
+-- its memory is backed, and each entry leads into it
+pub record IsFrontMmu {Y : Type 0} (M : mems.Ghosts Y) (front : FrontMmu Y) : Type 0 where
+  pub backed : M.is_backed front.mem.now
+  pub inside : All (LeadsInto (M.memory front.mem.now)) front.entries.now
+
+-- these uses stand behind those that there were, at most as many as this
+pub record AddsUses (most : ℕ) (old new : ArrayVec Use) (added : List Use) : Type 0 where
+  pub items : new.items ≡ old.items ++ added
+  pub few : array_vec_len new ≤ array_vec_len old + most
 
 -- the uses by the walk of a table of the first stage, whose entries are read through the front space
 abbrev pub walked_uses : Virtual → List Entry → Memory → Shape → ℕ → ℕ → Access → List Use

@@ -1,7 +1,7 @@
 // The cached translations by which an access goes.
 
-ghost use Rattle.std.specs.Prelude.{◌≡◌, ◌+◌, ◌<◌, ◌≤◌, ◌==◌, ◌%◌, ◌++◌, [], ◌∷◌, None, true, length};
-ghost use Rattle.std.specs.List.{All, flat_map};
+ghost use Rattle.std.specs.Prelude.{◌≡◌, ◌+◌, ◌<◌, ◌≤◌, ◌==◌, ◌%◌, [], ◌∷◌, None, true, length};
+ghost use Rattle.std.specs.List.{flat_map};
 ghost use Rattle.arrayvec.specs.ArrayVec.{array_vec_len};
 ghost use Rattle.arch_defs.specs.declared.modes.Access.TheVariants.{Implicit};
 ghost use Rattle.arch_defs.specs.FirstEntries.{HasGuestFrame, first_leaf};
@@ -10,10 +10,10 @@ ghost use Rattle.arch_defs.specs.Widths.{bytes_in};
 ghost use Rattle.arch_defs.specs.WalkedEntries.{folds};
 ghost use Rattle.run_log.specs.declared.uses.Use.TheVariants.{First};
 ghost use Rattle.run_log.specs.Uses.{access_uses, passed_uses, second_uses, uses_if_known};
-ghost use Rattle.cached_uses.specs.Serving.{LeadsInto, mmu_through, walked_uses};
+ghost use Rattle.cached_uses.specs.Serving.{AddsUses, IsFrontMmu, mmu_of_front, walked_uses};
 
 use crate::first_stage::first_served;
-use crate::front_words::FrontWords;
+use crate::front_mmu::FrontMmu;
 use crate::second_stage::{add_second, folds};
 use arch_defs::{Access, Entry, FirstEntry, Found, Shape, SupervisorRoot, Virtual, Width};
 use arrayvec::ArrayVec;
@@ -32,9 +32,8 @@ fn is_aligned(va: u64, width: Width) -> bool
 #[tactic(auto, using(crate::proofs::Each::each_rules))]
 fn add_reads(uses: &mut ArrayVec<Use, 10>, virt: &Virtual, entries: &[Entry], places: &[u64])
     requires room { array_vec_len uses.old + length places.now ≤ 10 }
-    ensures items { uses.new.items ≡ uses.old.items
-        ++ flat_map (λ place. second_uses virt.now entries.now place Implicit) places.now }
-    ensures few { array_vec_len uses.new ≤ array_vec_len uses.old + length places.now }
+    ensures { AddsUses (length places.now) uses.old uses.new
+        (flat_map (λ place. second_uses virt.now entries.now place Implicit) places.now) }
 {
     for i in 0..places.len() {
         add_second(uses, virt, entries, places[i], Access::Implicit);
@@ -51,8 +50,7 @@ fn add_passed(
     found: Found,
 )
     requires { array_vec_len uses.old < 10 }
-    ensures items { uses.new.items ≡ uses.old.items ++ passed_uses virt.now entries.now access found }
-    ensures few { array_vec_len uses.new ≤ array_vec_len uses.old + 1 }
+    ensures { AddsUses 1 uses.old uses.new (passed_uses virt.now entries.now access found) }
 {
     match found {
         Found::Passes(address) => add_second(uses, virt, entries, address, access),
@@ -64,76 +62,53 @@ fn add_passed(
 #[tactic(auto, using(crate::proofs::Added::added_rules))]
 fn add_walked<M: Mem>(
     uses: &mut ArrayVec<Use, 10>,
-    virt: &Virtual,
-    entries: &[Entry],
-    mem: &M,
+    mmu: &FrontMmu<'_, M>,
     shape: Shape,
     ppn: u64,
     va: u64,
     access: Access,
 )
-    requires backed { M.is_backed mem.now }
-    requires inside { All (LeadsInto (M.memory mem.now)) entries.now }
+    requires mmu { IsFrontMmu M.Mem mmu.now }
     requires room { array_vec_len uses.old ≤ 5 }
-    ensures items { uses.new.items ≡ uses.old.items
-        ++ walked_uses virt.now entries.now (M.memory mem.now) shape ppn va access }
-    ensures few { array_vec_len uses.new ≤ array_vec_len uses.old + 5 }
+    ensures { AddsUses 5 uses.old uses.new (walked_uses mmu.now.virt.now mmu.now.entries.now
+        (M.memory mmu.now.mem.now) shape ppn va access) }
 {
-    let mxr = virt.csrs.hs.status.mxr;
-    let words = FrontWords { entries, mxr, mem };
+    let (virt, entries) = (mmu.virt, mmu.entries);
     let root = ppn % 0x1000_0000_0000;
-    let places = places_met(&words, root, shape, va, access);
+    let places = places_met(mmu, root, shape, va, access);
     add_reads(uses, virt, entries, places.as_slice());
-    let end = walk(&words, root, shape, va, access);
+    let end = walk(mmu, root, shape, va, access);
     let found = found_by(privilege_of(&virt.csrs, virt.mode), access, va, end);
     add_passed(uses, virt, entries, access, found);
 }
 
 // Adds the uses by an address of which the first-stage translation is not cached, in a state that folds.
 #[tactic(auto, using(crate::proofs::Added::added_rules), unfolding(arch_defs::specs::Translation::first_stage))]
-fn add_folded<M: Mem>(
-    uses: &mut ArrayVec<Use, 10>,
-    virt: &Virtual,
-    entries: &[Entry],
-    mem: &M,
-    va: u64,
-    access: Access,
-)
-    requires folds { folds virt.now ≡ true }
-    requires backed { M.is_backed mem.now }
-    requires inside { All (LeadsInto (M.memory mem.now)) entries.now }
+fn add_folded<M: Mem>(uses: &mut ArrayVec<Use, 10>, mmu: &FrontMmu<'_, M>, va: u64, access: Access)
+    requires folds { folds mmu.now.virt.now ≡ true }
+    requires mmu { IsFrontMmu M.Mem mmu.now }
     requires room { array_vec_len uses.old ≤ 5 }
-    ensures items { uses.new.items ≡ uses.old.items ++ uses_if_known virt.now entries.now
-        (mmu_through virt.now entries.now (M.memory mem.now)) va access None }
-    ensures few { array_vec_len uses.new ≤ array_vec_len uses.old + 5 }
+    ensures { AddsUses 5 uses.old uses.new (uses_if_known mmu.now.virt.now mmu.now.entries.now
+        (mmu_of_front M.Mem mmu.now) va access None) }
 {
-    match supervisor_of(&virt.csrs, virt.mode).atp {
-        SupervisorRoot::Bare => add_second(uses, virt, entries, va, access),
+    match supervisor_of(&mmu.virt.csrs, mmu.virt.mode).atp {
+        SupervisorRoot::Bare => add_second(uses, mmu.virt, mmu.entries, va, access),
         SupervisorRoot::Table { mode, ppn, .. } => {
-            add_walked(uses, virt, entries, mem, mode.shape(), ppn, va, access);
+            add_walked(uses, mmu, mode.shape(), ppn, va, access);
         }
     }
 }
 
 // The same in any state.
 #[tactic(auto, using(crate::proofs::Added::added_rules))]
-fn add_unknown<M: Mem>(
-    uses: &mut ArrayVec<Use, 10>,
-    virt: &Virtual,
-    entries: &[Entry],
-    mem: &M,
-    va: u64,
-    access: Access,
-)
-    requires backed { M.is_backed mem.now }
-    requires inside { All (LeadsInto (M.memory mem.now)) entries.now }
+fn add_unknown<M: Mem>(uses: &mut ArrayVec<Use, 10>, mmu: &FrontMmu<'_, M>, va: u64, access: Access)
+    requires mmu { IsFrontMmu M.Mem mmu.now }
     requires room { array_vec_len uses.old ≤ 5 }
-    ensures items { uses.new.items ≡ uses.old.items ++ uses_if_known virt.now entries.now
-        (mmu_through virt.now entries.now (M.memory mem.now)) va access None }
-    ensures few { array_vec_len uses.new ≤ array_vec_len uses.old + 5 }
+    ensures { AddsUses 5 uses.old uses.new (uses_if_known mmu.now.virt.now mmu.now.entries.now
+        (mmu_of_front M.Mem mmu.now) va access None) }
 {
-    if folds(virt) {
-        add_folded(uses, virt, entries, mem, va, access);
+    if folds(mmu.virt) {
+        add_folded(uses, mmu, va, access);
     }
 }
 
@@ -149,9 +124,8 @@ fn add_known(
 )
     requires fits { HasGuestFrame entry }
     requires room { array_vec_len uses.old ≤ 5 }
-    ensures items { uses.new.items ≡ uses.old.items ++ First entry va access
-        ∷ second_uses virt.now entries.now (leaf_address (first_leaf entry) va) access }
-    ensures few { array_vec_len uses.new ≤ array_vec_len uses.old + 5 }
+    ensures { AddsUses 5 uses.old uses.new (First entry va access
+        ∷ second_uses virt.now entries.now (leaf_address (first_leaf entry) va) access) }
 {
     uses.push(Use::First(entry, va, access));
     add_second(uses, virt, entries, leaf_address(&entry.leaf(), va), access);
@@ -162,25 +136,21 @@ fn add_known(
 #[tactic(auto, using(crate::proofs::Added::access_rules))]
 pub fn add_uses<M: Mem>(
     uses: &mut ArrayVec<Use, 10>,
-    virt: &Virtual,
-    entries: &[Entry],
-    mem: &M,
+    mmu: &FrontMmu<'_, M>,
     va: u64,
     width: Width,
     access: Access,
 )
-    requires backed { M.is_backed mem.now }
-    requires inside { All (LeadsInto (M.memory mem.now)) entries.now }
+    requires mmu { IsFrontMmu M.Mem mmu.now }
     requires room { array_vec_len uses.old ≤ 5 }
-    ensures items { uses.new.items ≡ uses.old.items ++ access_uses virt.now entries.now
-        (mmu_through virt.now entries.now (M.memory mem.now)) va width access }
-    ensures few { array_vec_len uses.new ≤ array_vec_len uses.old + 5 }
+    ensures { AddsUses 5 uses.old uses.new (access_uses mmu.now.virt.now mmu.now.entries.now
+        (mmu_of_front M.Mem mmu.now) va width access) }
 {
     if !is_aligned(va, width) {
         return;
     }
-    match first_served(virt, va, access) {
-        Some(entry) => add_known(uses, virt, entries, entry, va, access),
-        None => add_unknown(uses, virt, entries, mem, va, access),
+    match first_served(mmu.virt, va, access) {
+        Some(entry) => add_known(uses, mmu.virt, mmu.entries, entry, va, access),
+        None => add_unknown(uses, mmu, va, access),
     }
 }

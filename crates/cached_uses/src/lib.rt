@@ -3,7 +3,7 @@
 
 mod accesses;
 mod first_stage;
-mod front_words;
+mod front_mmu;
 mod laws;
 mod second_stage;
 mod steps;

@@ -1,11 +1,11 @@
 // The cached translation of the second stage that serves an access.
 
-ghost use Rattle.std.specs.Prelude.{◌≡◌, ◌+◌, ◌<◌, ◌≤◌, ◌++◌, All, option_map};
+ghost use Rattle.std.specs.Prelude.{◌≡◌, ◌+◌, ◌<◌, option_map};
 ghost use Rattle.arrayvec.specs.ArrayVec.{array_vec_len};
 ghost use Rattle.arch_defs.specs.CachedEntries.{entry_at, leaf_of};
 ghost use Rattle.arch_defs.specs.WalkedEntries.{folds};
 ghost use Rattle.run_log.specs.Uses.{second_uses};
-ghost use Rattle.cached_uses.specs.Serving.{second_served};
+ghost use Rattle.cached_uses.specs.Serving.{AddsUses, second_served};
 
 use arch_defs::{Access, Entry, LeafPte, Virtual};
 use arrayvec::ArrayVec;
@@ -69,8 +69,7 @@ pub fn add_second(
     kind: Access,
 )
     requires { array_vec_len uses.old < 10 }
-    ensures items { uses.new.items ≡ uses.old.items ++ second_uses virt.now entries.now address kind }
-    ensures few { array_vec_len uses.new ≤ array_vec_len uses.old + 1 }
+    ensures { AddsUses 1 uses.old uses.new (second_uses virt.now entries.now address kind) }
 {
     match second_served(virt, entries, address, kind) {
         Some(entry) => uses.push(Use::Second(entry, address, kind)),

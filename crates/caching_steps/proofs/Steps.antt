@@ -76,10 +76,6 @@ filled_each P (suc n) m is filled all = by (missing_entry m) refl (λ t. filled_
 each_weaker : (P Q : GuestRoot → Entry → Type 0) → ((key : GuestRoot) (e : Entry) → P key e → Q key e) → (spaces : List Space) → EachEntry P spaces → EachEntry Q spaces
 each_weaker P Q f spaces all i s inside k e within = f (get_or spaces i s).key (get_or (get_or spaces i s).entries k e) (all i s inside k e within)
 
-front_all : (P : GuestRoot → Entry → Type 0) (key : GuestRoot) (spaces : List Space) → FrontIs key spaces → EachEntry P spaces → All (P key) (front spaces)
-front_all P key [] there all = absurd there
-front_all P key (s ∷ ss) there all = subst (λ k. All (P k) s.entries) there (All-head (λ (s : Space). All (P s.key) s.entries) s ss all)
-
 -- a machine that goes on
 fills_are : (m : Machine) → m.platform.status ≡ Running → next_filled m ≡ filled_within (most_fills m) m
 unfolding next_filled
@@ -171,13 +167,18 @@ module _ (origin : Machine) (from n : ℕ) (notes : List Note) (is : IsOrderly o
   second_since e told address kind = let next : suc n ≡ n + 1 = omega arith in
       told ∙ ap (λ k. cached_last origin from k (second_name hgatp e)) next
 
+  front_since : (spaces : List Space) → FrontIs hgatp spaces → EachEntry Told spaces → All (SecondHave SinceTold) (front spaces)
+  front_since [] there told = absurd there
+  front_since (s ∷ ss) there told = All-weaker (Told hgatp) (SecondHave SinceTold) second_since s.entries
+      (subst (λ key. All (Told key) s.entries) there (All-head (λ (s : Space). All (Told s.key) s.entries) s ss told))
+
   since_told : All SinceTold (uses (ready now))
   since_told = used_have SinceTold (ready now)
       (subst (λ (p : Platform). All (FirstHave SinceTold) p.virt.first) (sym (ready_platform now))
       (λ i d inside. first_since (get_or now.platform.virt.first i d) (remembers.first i d inside)))
-      (λ folding. All-weaker (Told hgatp) (SecondHave SinceTold) second_since (front (ready now).spaces) (front_all Told hgatp (ready now).spaces
+      (λ folding. front_since (ready now).spaces
       (subst (λ (p : Platform). FrontIs p.virt.csrs.hgatp (ready now).spaces) (ready_platform now)
-      ((filled_orderly (most_fills now) now (stays_orderly origin n is)).front folding)) second_ready))
+      ((filled_orderly (most_fills now) now (stays_orderly origin n is)).front folding)) second_ready)
 
 pub remembers_on : RemembersOn
 remembers_on origin from n notes is after running remembers = remembers_next origin from n notes is after running remembers

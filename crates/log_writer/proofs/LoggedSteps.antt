@@ -179,3 +179,33 @@ starts K kinds from steps first old counts notes none_counted none_noted = recor
       subst (λ (l : List Line). Puts K.stands_for old new ok (text_of_lines l)) (all_left kinds origin from steps) puts;
   count = omega arith;
 }
+
+-- the same after plain steps that have been passed, if there were any
+module _ {O : Type 0} {K : sinks.Ghosts O} {kinds : Kinds} {from steps n made : ℕ} {first m after : Machine} {old now : O} {counts : List CountLine} {notes : List Note}
+    (there : IsLoggedTo K kinds from steps first old n m counts notes now) (has : HasPassedPlain kinds m (from + steps - n) made after) where
+  here : IsLoggedTo K kinds from steps first old (n + made) after counts notes now
+  here = passed K kinds from steps first old n made m after counts notes now there has
+
+  pub all_put_here : from + steps ≤ n + made → AllPut K kinds from steps first old now true
+  all_put_here = all_put K kinds from steps first old (n + made) after counts notes now here
+
+  pub idle_counted_here : after.platform.status ≢ Running → AllCounted K kinds from steps first old counts
+  idle_counted_here = idle_counted K kinds from steps first old (n + made) after counts notes now here
+
+  pub idle_put_here : after.platform.status ≢ Running → AllPut K kinds from steps first old now true
+  idle_put_here = idle_put K kinds from steps first old (n + made) after counts notes now here
+
+  module _ (before : n + made < from + steps) (running : after.platform.status ≡ Running) (kept : Before) (is_kept : kept ≡ before_of (n + made) after) (new : O) where
+    -- by the number that is kept of the step
+    abbrev PutsKept : ℕ → Bool → Type 0
+    PutsKept k ok = (origin : Machine) (from : ℕ) → (kinds.stale ≡ true → TellUses origin from (seen_from k after) (notes ++ fill_notes k after))
+        → Puts K.stands_for now new ok (text_of_lines (lines_of_step kinds origin from (seen_from k after)))
+
+    puts_here : (ok : Bool) → PutsKept kept.number ok → PutsKept (n + made) ok
+    puts_here ok = subst (λ (b : Before). PutsKept b.number ok) is_kept
+
+    pub step_stopped_here : PutsKept kept.number false → AllPut K kinds from steps first old new false
+    step_stopped_here puts = step_stopped K kinds from steps first old (n + made) after counts notes now here before running new (puts_here false puts)
+
+    pub step_front_here : PutsKept kept.number true → AllPut K kinds from steps first old new false
+    step_front_here puts = step_front K kinds from steps first old (n + made) after counts notes now here before running new (puts_here true puts)

@@ -13,6 +13,7 @@ use Rattle.run_log.specs.Log.{if_asked}
 use Rattle.run_log.specs.Seen.{Seen}
 use Rattle.run_log.specs.Stale.{stale_lines}
 use Rattle.run_log.specs.Traps.{step_events}
+use Rattle.step_logs.specs.Befores.{before_of}
 use Rattle.step_logs.specs.StepTexts.{IsOfStep, lines_from_steps}
 use Rattle.step_logs.specs.Tries.{IsOneTry, IsTry}
 use Rattle.step_logs.specs.declared.befores.Before.{Before}
@@ -39,6 +40,11 @@ lines_from_first kinds origin from s = first_lines kinds.fills s ++ lines_from_s
 pub record CanMakeStep (m : Machine) : Type 0 where
   pub running : m.platform.status ≡ Running
   pub early : m.platform.steps < 2 ^ 61
+
+-- this is kept of a step that can be made, the machine's next
+pub record IsBeforeStep (kept : Before) (m : Machine) : Type 0 where
+  pub own : kept ≡ before_of kept.number m
+  pub goes_on : CanMakeStep m
 
 -- one try has been made, which this tells of, or an entry that the step lacked has been filled
 abbrev pub IsTriedOnce : Kinds → Machine → Result Tried Entry → Machine → Type 0

@@ -6,7 +6,7 @@ ghost use Rattle.caching_steps.specs.Noting.{second_name};
 ghost use Rattle.caching_steps.specs.Remembering.{fill_notes, found_notes, notes_of};
 ghost use Rattle.guest_settings.specs.declared.statuses.Status.TheVariants.{Running};
 ghost use Rattle.log_writer.specs.StaleLogs.{HasShown, IsShownOf};
-ghost use Rattle.log_writer.specs.Steps.{CanMakeStep, HasBeenMade, IsTriedOnce, IsTriedStep, lines_from_first, second_lines};
+ghost use Rattle.log_writer.specs.Steps.{CanMakeStep, HasBeenMade, IsBeforeStep, IsTriedOnce, IsTriedStep, lines_from_first, second_lines};
 ghost use Rattle.machine_defs.specs.Fills.{needed};
 ghost use Rattle.machine_defs.specs.Machine.{Machine};
 ghost use Rattle.outside.specs.Faults.{Rose};
@@ -109,8 +109,7 @@ fn make_step<R: TryRunner, O: Sink>(
     stale: &mut StaleLog,
     out: &mut O,
 ) -> Result<Tried, LogEnd>
-    requires before { before.now ≡ before_of before.now.number (R.machine runner.old) }
-    requires goes_on { CanMakeStep (R.machine runner.old) }
+    requires before { IsBeforeStep before.now (R.machine runner.old) }
     ensures step { IfOk result (λ made. IsTriedStep kinds.now
         (seen_from before.now.number (R.machine runner.old)) before.now made (R.machine runner.new)) }
     ensures shown { OnOk result (kinds.now.stale ≡ true
@@ -167,8 +166,7 @@ pub fn log_step<R: TryRunner, O: Sink>(
     stale: &mut StaleLog,
     out: &mut O,
 ) -> Result<Option<Event>, LogEnd>
-    requires before { before.now ≡ before_of before.now.number (R.machine runner.old) }
-    requires goes_on { CanMakeStep (R.machine runner.old) }
+    requires before { IsBeforeStep before.now (R.machine runner.old) }
     ensures made { IfOk result (λ event. HasBeenMade (seen_from before.now.number (R.machine runner.old))
         event (R.machine runner.new)) }
     ensures noted { OnOk result (kinds.now.stale ≡ true → stale.new.steps

@@ -1,5 +1,6 @@
 -- What is transferred on a connection, in the order in which it is.
-use Rattle.std.specs.Prelude.{ℕ, ◌≤◌, List, [], ◌∷◌, ◌++◌, length, take, Bool, true, false, Result, Ok, Err}
+use Rattle.std.specs.Prelude.{◌≡◌, ℕ, ◌≤◌, List, [], ◌∷◌, ◌++◌, length, take, Bool, true, false, Option, Result, Ok, Err}
+use Rattle.std.specs.Io.KnownBytes.{Consumes, IsAtEnd}
 use Rattle.outside.specs.Pieces.{Appends}
 use Rattle.outside.specs.declared.connections.ReceiveFault.{ReceiveFault}
 use Rattle.outside.specs.declared.connections.Transfer.{Transfer}
@@ -15,6 +16,12 @@ abbrev pub sent_in : List Transfer → List ℕ
 sent_in [] = []
 sent_in (Came piece ∷ rest) = sent_in rest
 sent_in (Sent piece ∷ rest) = piece ++ sent_in rest
+
+-- what comes is the first n bytes of the room, which are no longer to come, and none only at the end
+pub record GivesPiece (coming coming' : Option (List ℕ)) (room : List ℕ) (n : ℕ) : Type 0 where
+  pub within : n ≤ length room
+  pub came : Consumes coming coming' (take n room)
+  pub end : n ≡ 0 → IsAtEnd coming'
 
 -- a read gave the first n bytes of its room, or it failed, and nothing was transferred
 abbrev pub Comes : {C : Type 0} → (C → List Transfer → Type 0) → C → C → Result ℕ ReceiveFault

@@ -1,10 +1,9 @@
 // What a program talks on.
 
-ghost use Rattle.std.specs.Prelude.{◌≡◌, ℕ, ◌≤◌, List, [], ◌∷◌, length, take, Option, is_ok, IfOk, OnErr};
-ghost use Rattle.std.specs.Io.KnownBytes.{Consumes, IsAtEnd};
-ghost use Rattle.outside.specs.Connections.{Comes, Sends};
+ghost use Rattle.std.specs.Prelude.{◌≡◌, ℕ, ◌≤◌, List, length, Option, is_ok, IfOk, OnErr};
+ghost use Rattle.outside.specs.Connections.{Comes, GivesPiece, Sends};
 ghost use Rattle.outside.specs.declared.connections.Transfer.{Transfer};
-ghost use Rattle.outside.specs.Faults.{Rose};
+ghost use Rattle.outside.specs.Faults.{CountsFaults};
 
 use crate::sinks::SinkFault;
 use std::marker::Model;
@@ -54,20 +53,16 @@ pub trait Connection {
     /// that fails takes nothing.
     fn receive(&mut self, room: &mut [u8]) -> Result<usize, ReceiveFault>
         requires { 1 ≤ length room.old }
-        ensures within { IfOk result (λ n. n ≤ length room.new) }
-        ensures came { IfOk result (λ n. Consumes (coming self.old) (coming self.new) (take n room.new)) }
-        ensures end { IfOk result (λ n. n ≡ 0 → IsAtEnd (coming self.new)) }
+        ensures came { IfOk result (GivesPiece (coming self.old) (coming self.new) room.new) }
         ensures kept { OnErr result (coming self.new ≡ coming self.old) }
         ensures made { Comes made self.old self.new result room.new }
-        ensures cause { OnErr result (Rose (read_faults self.old) (read_faults self.new)) }
-        ensures count { read_faults self.old ≤ read_faults self.new }
+        ensures faults { CountsFaults result (read_faults self.old) (read_faults self.new) }
         ensures apart { write_faults self.new ≡ write_faults self.old };
 
     /// Sends the piece, or a front of it where it answers a fault.
     fn send(&mut self, piece: &[u8]) -> Result<(), SinkFault>
         ensures made { Sends made self.old self.new (is_ok result) piece.now }
         ensures kept { coming self.new ≡ coming self.old }
-        ensures cause { OnErr result (Rose (write_faults self.old) (write_faults self.new)) }
-        ensures count { write_faults self.old ≤ write_faults self.new }
+        ensures faults { CountsFaults result (write_faults self.old) (write_faults self.new) }
         ensures apart { read_faults self.new ≡ read_faults self.old };
 }

@@ -1,8 +1,9 @@
 // The files of the file system as a store.
 
-ghost use Rattle.std.specs.Prelude.{◌≡◌, ◌≤◌, ◌↔◌, length, Some, None, is_some, is_ok, is_err, IfOk, IsErrOf, if◌then◌else◌};
+ghost use Rattle.std.specs.Prelude.{◌≡◌, ◌≤◌, length, None, is_ok, IfOk, IsErrOf, if◌then◌else◌};
 ghost use Rattle.outside.specs.Files.{GivesFile};
 ghost use Rattle.outside.specs.Faults.{Rose, one_more};
+ghost use Rattle.outside.specs.FileStores.{IsErrorOf};
 
 use crate::stores::{Store, StoreFault};
 use std::alloc::Global;
@@ -79,11 +80,7 @@ impl<'a, R: Files> Store for FileStore<'a, R> {
         ensures count { self.old.faults ≤ self.new.faults }
         ensures leaves { self.new.faults
             ≡ (if is_ok result then self.old.faults else one_more self.old.faults) }
-
-        // An error of the system is a fault; it is out of memory exactly where its kind says so.
-        ensures error { is_some self.new.error ≡ is_err result }
-        ensures memory { IsErrOf result StoreFault.NoMemory
-            ↔ (self.new.error ≡ Some ErrorKind.OutOfMemory) }
+        ensures error { IsErrorOf result self.new.error }
     {
         match first_bytes(self.rt, alloc, name, most) {
             Ok(bytes) => {

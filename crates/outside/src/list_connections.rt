@@ -2,8 +2,8 @@
 
 ghost use Rattle.std.specs.Prelude.{◌≡◌, ◌≤◌, ◌∷◌, [], ◌++◌, length, nat_eq, take, Some, OnOk, OnErr, IfOk, is_ok};
 ghost use Rattle.std.specs.List.{list_any};
-ghost use Rattle.outside.specs.Faults.{one_more, Rose};
-ghost use Rattle.outside.specs.Connections.{Comes, Sends};
+ghost use Rattle.outside.specs.Faults.{one_more, CountsFaults};
+ghost use Rattle.outside.specs.Connections.{Comes, GivesPiece, Sends};
 ghost use Rattle.outside.specs.ListSinks.{after_put, is_taken};
 
 use crate::connections::{Connection, ReceiveFault};
@@ -135,11 +135,8 @@ impl Connection for ListConnection {
     #[tactic(auto, using(crate::proofs::Transfers::made_rules))]
     fn receive(&mut self, room: &mut [u8]) -> Result<usize, ReceiveFault>
         requires { 1 ≤ length room.old }
-        ensures within { IfOk result (λ n. n ≤ length room.new) }
-        ensures came { IfOk result (λ n. self.old.coming ≡ take n room.new ++ self.new.coming) }
-        ensures end { IfOk result (λ n. n ≡ 0 → self.new.coming ≡ []) }
-        ensures cause { OnErr result (Rose self.old.read_faults self.new.read_faults) }
-        ensures count { self.old.read_faults ≤ self.new.read_faults }
+        ensures came { IfOk result (GivesPiece (Some self.old.coming) (Some self.new.coming) room.new) }
+        ensures faults { CountsFaults result self.old.read_faults self.new.read_faults }
         ensures made { Comes IsMadeBy self.old self.new result room.new }
         ensures answer { result ≡ read_result self.old (length room.old) }
         ensures leaves { self.new ≡ after_read self.old (length room.old) }
@@ -166,8 +163,7 @@ impl Connection for ListConnection {
     #[tactic(auto, using(crate::proofs::Transfers::made_rules))]
     fn send(&mut self, piece: &[u8]) -> Result<(), SinkFault>
         ensures made { Sends IsMadeBy self.old self.new (is_ok result) piece.now }
-        ensures cause { OnErr result (Rose self.old.out.faults self.new.out.faults) }
-        ensures count { self.old.out.faults ≤ self.new.out.faults }
+        ensures faults { CountsFaults result self.old.out.faults self.new.out.faults }
         ensures answer { is_ok result ≡ is_taken self.old.out piece.now }
         ensures leaves { self.new ≡ record self.old { out = after_put self.old.out piece.now } }
     {

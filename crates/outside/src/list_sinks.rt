@@ -1,6 +1,6 @@
 // A sink that keeps its bytes, and fails where it is told to.
 
-ghost use Rattle.std.specs.Prelude.{◌≡◌, ◌≤◌, ◌∷◌, [], ◌++◌, is_ok, OnOk, OnErr, IfOk};
+ghost use Rattle.std.specs.Prelude.{◌≡◌, ◌≤◌, ◌∷◌, [], ◌++◌, is_ok, min, OnOk, OnErr, IfOk};
 ghost use Rattle.outside.specs.Pieces.{Appends, Puts};
 
 use crate::sinks::{Sink, SinkFault};
@@ -103,6 +103,13 @@ impl ListSink {
     }
 }
 
+// How many bytes of a piece of this length a put takes, where it is to fail once it has taken `takes`.
+fn taken_of(takes: usize, length: usize, left: usize) -> usize
+    ensures { result ≡ min (min takes length) left }
+{
+    takes.min(length).min(left)
+}
+
 impl Sink for ListSink {
     ghost use Rattle.outside.specs.ListSinks.{after_put, is_taken, IsWrittenBy};
 
@@ -122,7 +129,7 @@ impl Sink for ListSink {
     {
         let left = self.room - self.bytes.len();
         let failure = self.failure();
-        let taken = failure.unwrap_or(piece.len()).min(piece.len()).min(left);
+        let taken = taken_of(failure.unwrap_or(piece.len()), piece.len(), left);
         self.bytes.extend_from_slice(&piece[..taken]).unwrap();
         self.puts = self.puts.saturating_add(1);
         if failure.is_none() && piece.len() <= left {

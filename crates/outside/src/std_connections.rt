@@ -1,8 +1,9 @@
 // The streams of the process as a connection.
 
-ghost use Rattle.std.specs.Prelude.{◌≡◌, ◌≤◌, take, length, None, is_ok, IfOk, OnOk, OnErr, if◌then◌else◌};
-ghost use Rattle.std.specs.Io.KnownBytes.{Appends, Consumes, IsAtEnd, Keeps};
-ghost use Rattle.outside.specs.Faults.{one_more, Rose};
+ghost use Rattle.std.specs.Prelude.{◌≡◌, ◌≤◌, length, None, is_ok, IfOk, OnOk, OnErr, if◌then◌else◌};
+ghost use Rattle.std.specs.Io.KnownBytes.{Appends, Keeps};
+ghost use Rattle.outside.specs.Connections.{GivesPiece};
+ghost use Rattle.outside.specs.Faults.{one_more, CountsFaults};
 
 use crate::connections::{Connection, ReceiveFault};
 use crate::sinks::{Sink, SinkFault};
@@ -64,10 +65,7 @@ impl<R, W> StdConnection<R, W> {
 #[tactic(auto, using(crate::proofs::Transfers::readings))]
 fn read_through<R: Read>(from: &mut R, room: &mut [u8]) -> io::Result<usize>
     requires { 1 ≤ length room.old }
-    ensures within { IfOk result (λ n. n ≤ length room.new) }
-    ensures came { IfOk result (λ n.
-        Consumes (R.remaining from.old) (R.remaining from.new) (take n room.new)) }
-    ensures end { IfOk result (λ n. n ≡ 0 → IsAtEnd (R.remaining from.new)) }
+    ensures came { IfOk result (GivesPiece (R.remaining from.old) (R.remaining from.new) room.new) }
     ensures kept { OnErr result (Keeps (R.remaining from.old) (R.remaining from.new)) }
 {
     for _ in 0..u64::MAX {
@@ -94,17 +92,14 @@ impl<R: Read, W: Write> Connection for StdConnection<R, W> {
 
     fn receive(&mut self, room: &mut [u8]) -> Result<usize, ReceiveFault>
         requires { 1 ≤ length room.old }
-        ensures within { IfOk result (λ n. n ≤ length room.new) }
-        ensures cause { OnErr result (Rose self.old.read_faults self.new.read_faults) }
-        ensures count { self.old.read_faults ≤ self.new.read_faults }
+        ensures faults { CountsFaults result self.old.read_faults self.new.read_faults }
         ensures leaves { self.new.read_faults
             ≡ (if is_ok result then self.old.read_faults else one_more self.old.read_faults) }
         ensures apart { self.new.write_faults ≡ self.old.write_faults }
 
-        // Only where the reader tells its bytes, as one in memory does.
-        ensures read { IfOk result (λ n.
-            Consumes (R.remaining self.old.from) (R.remaining self.new.from) (take n room.new)) }
-        ensures read_end { IfOk result (λ n. n ≡ 0 → IsAtEnd (R.remaining self.new.from)) }
+        // What came is known only where the reader tells its bytes, as one in memory does.
+        ensures read { IfOk result
+            (GivesPiece (R.remaining self.old.from) (R.remaining self.new.from) room.new) }
     {
         match read_through(&mut self.from, room) {
             Ok(n) => Ok(n),
@@ -116,8 +111,7 @@ impl<R: Read, W: Write> Connection for StdConnection<R, W> {
     }
 
     fn send(&mut self, piece: &[u8]) -> Result<(), SinkFault>
-        ensures cause { OnErr result (Rose self.old.write_faults self.new.write_faults) }
-        ensures count { self.old.write_faults ≤ self.new.write_faults }
+        ensures faults { CountsFaults result self.old.write_faults self.new.write_faults }
         ensures leaves { self.new.write_faults
             ≡ (if is_ok result then self.old.write_faults else one_more self.old.write_faults) }
         ensures apart { self.new.read_faults ≡ self.old.read_faults }

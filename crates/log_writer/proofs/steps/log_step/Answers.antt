@@ -30,7 +30,7 @@ returns-in_err-put_step-clause-bytes g c = λ origin from told.
     (sym (step_lines_are c.args.kinds.now origin from s))
     (lines_then g.O.Sink.stands_for c.args.out.now c.make_step.new.out c.put_step.new.out false (second_lines c.args.kinds.now.fills s (next_filled m))
     (lines_from_first c.args.kinds.now origin from s) c.in_ok-made.ensures.bytes
-    (c.in_err-put_step.ensures.bytes origin from s made.own c.requires.goes_on.running (λ asked. (c.in_ok-made.ensures.shown asked).shown)
+    (c.in_err-put_step.ensures.bytes origin from s made.own c.requires.before.goes_on.running (λ asked. (c.in_ok-made.ensures.shown asked).shown)
     (λ asked. subst (TellUses origin from s) (sym (c.in_ok-made.ensures.shown asked).steps) (told asked)))))
 
 pub returns-clause-made : goal.returns-clause-made
@@ -44,7 +44,7 @@ returns-clause-noted g c = λ asked.
     let made = c.in_ok-made.ensures.step in
     let shown = c.in_ok-made.ensures.shown asked in
     c.in_ok-put_step.ensures.noted (seen_from n m) asked (record { before = made.own.before; last = made.own.last; uses = shown.shown })
-    c.requires.goes_on.running made.own.events
+    c.requires.before.goes_on.running made.own.events
     ∙ ap (λ (l : List Note). l ++ found_notes n m) shown.steps
 
 pub returns-clause-bytes : goal.returns-clause-bytes
@@ -56,5 +56,5 @@ returns-clause-bytes g c = λ origin from told.
     (sym (step_lines_are c.args.kinds.now origin from s))
     (lines_then g.O.Sink.stands_for c.args.out.now c.make_step.new.out c.put_step.new.out true (second_lines c.args.kinds.now.fills s (next_filled m))
     (lines_from_first c.args.kinds.now origin from s) c.in_ok-made.ensures.bytes
-    (c.in_ok-put_step.ensures.bytes origin from s made.own c.requires.goes_on.running (λ asked. (c.in_ok-made.ensures.shown asked).shown)
+    (c.in_ok-put_step.ensures.bytes origin from s made.own c.requires.before.goes_on.running (λ asked. (c.in_ok-made.ensures.shown asked).shown)
     (λ asked. subst (TellUses origin from s) (sym (c.in_ok-made.ensures.shown asked).steps) (told asked))))

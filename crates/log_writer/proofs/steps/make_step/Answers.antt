@@ -26,8 +26,8 @@ try_once-requires g c =
     let same = ap (λ (p : Platform). p.steps) filled.platform in
     record {
       goes_on = record {
-        running = now_running (g.R.TryRunner.machine c.args.runner.now) (g.R.TryRunner.machine c.loop-made.runner) filled c.requires.goes_on.running;
-        early = omega (arith, same, c.requires.goes_on.early);
+        running = now_running (g.R.TryRunner.machine c.args.runner.now) (g.R.TryRunner.machine c.loop-made.runner) filled c.requires.before.goes_on.running;
+        early = omega (arith, same, c.requires.before.goes_on.early);
       };
     }
 
@@ -38,7 +38,7 @@ returns-in-Ok-clause-step g c =
     record {
       own =
           step_made c.args.kinds.now c.args.before.now (g.R.TryRunner.machine c.args.runner.now) (g.R.TryRunner.machine c.loop-made.runner)
-          (g.R.TryRunner.machine c.try_once.new.runner) c.in-Ok.made.tried c.requires.before c.requires.goes_on.running filled c.in-Ok.ensures.tried.0
+          (g.R.TryRunner.machine c.try_once.new.runner) c.in-Ok.made.tried c.requires.before.own c.requires.before.goes_on.running filled c.in-Ok.ensures.tried.0
           c.in-Ok.made.event c.in-Ok.ensures.tried.1;
       most = omega (arith, same, c.in-Ok.ensures.most);
     }
@@ -68,17 +68,17 @@ returns-in-Ok-clause-bytes g c =
 pub returns-in_err-log_fill-in-Err-clause-bytes : goal.returns-in_err-log_fill-in-Err-clause-bytes
 returns-in_err-log_fill-in-Err-clause-bytes g c =
     let s = seen_from c.args.before.now.number (g.R.TryRunner.machine c.args.runner.now) in
-    let running = now_running (g.R.TryRunner.machine c.args.runner.now) (g.R.TryRunner.machine c.loop-made.runner) c.loop-made.invariant.filled c.requires.goes_on.running in
+    let running = now_running (g.R.TryRunner.machine c.args.runner.now) (g.R.TryRunner.machine c.loop-made.runner) c.loop-made.invariant.filled c.requires.before.goes_on.running in
     let failed : is_ok c.from_residual.result ≡ false = search rules in
     rw failed (rest_stopped g.O.Sink.stands_for c.args.out.now c.loop-made.out c.log_fill.new.out _ _ _ _
     (second_try c.args.kinds.now.fills s (g.R.TryRunner.machine c.loop-made.runner) (g.R.TryRunner.machine c.try_once.new.runner) c.in-Err.entry
     c.in-Err.ensures.room running c.in-Err.ensures.tried)
-    c.loop-made.invariant.left (c.in_err-log_fill-in-Err.ensures.bytes s c.requires.before))
+    c.loop-made.invariant.left (c.in_err-log_fill-in-Err.ensures.bytes s c.requires.before.own))
 
 pub loop-made-preserved : goal.loop-made-preserved
 loop-made-preserved g c =
     let s = seen_from c.args.before.now.number (g.R.TryRunner.machine c.args.runner.now) in
-    let running = now_running (g.R.TryRunner.machine c.args.runner.now) (g.R.TryRunner.machine c.loop-made.runner) c.loop-made.invariant.filled c.requires.goes_on.running in
+    let running = now_running (g.R.TryRunner.machine c.args.runner.now) (g.R.TryRunner.machine c.loop-made.runner) c.loop-made.invariant.filled c.requires.before.goes_on.running in
     record {
       filled =
           filled_try (g.R.TryRunner.machine c.args.runner.now) (g.R.TryRunner.machine c.loop-made.runner) (g.R.TryRunner.machine c.try_once.new.runner) c.in-Err.entry
@@ -86,7 +86,7 @@ loop-made-preserved g c =
       left =
           rest_then g.O.Sink.stands_for c.args.out.now c.loop-made.out c.log_fill.new.out _ _ _ _
           (second_try c.args.kinds.now.fills s (g.R.TryRunner.machine c.loop-made.runner) (g.R.TryRunner.machine c.try_once.new.runner) c.in-Err.entry
-          c.in-Err.ensures.room running c.in-Err.ensures.tried) c.loop-made.invariant.left (c.in_ok-log_fill-in-Err.ensures.bytes s c.requires.before);
+          c.in-Err.ensures.room running c.in-Err.ensures.tried) c.loop-made.invariant.left (c.in_ok-log_fill-in-Err.ensures.bytes s c.requires.before.own);
       noted = λ asked.
           let n = c.args.before.now.number in
           let hgatp = (g.R.TryRunner.machine c.args.runner.now).platform.virt.csrs.hgatp in
@@ -94,7 +94,7 @@ loop-made-preserved g c =
           c.log_fill.new.stale.steps c.in-Err.ensures.room running c.in-Err.ensures.tried
           (c.in_ok-log_fill-in-Err.ensures.noted asked
           ∙ ap (λ (l : List Note). l ++ notes_of n (second_name c.args.before.now.csrs.hgatp c.in-Err.entry ∷ [])) c.in-Err.ensures.steps
-          ∙ ap (λ (b : Before). c.loop-made.stale.steps ++ notes_of n (second_name b.csrs.hgatp c.in-Err.entry ∷ [])) c.requires.before)
+          ∙ ap (λ (b : Before). c.loop-made.stale.steps ++ notes_of n (second_name b.csrs.hgatp c.in-Err.entry ∷ [])) c.requires.before.own)
           ∙ c.loop-made.invariant.noted asked;
       count = omega (arith, c.loop-made.invariant.count, c.log_fill.ensures.count);
     }

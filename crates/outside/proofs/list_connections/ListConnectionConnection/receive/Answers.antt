@@ -15,5 +15,9 @@ pub returns-clause-came : goal.returns-clause-came
 returns-clause-came c =
     let coming = ap (λ (held : ListState). held.coming) c.self.view_is in
     let after = c.copy_from_slice.ensures.after in
-    sym coming ∙ came_front c.self.inside.coming.items c.copy_from_slice.new.self (drop c.min-came.result c.args.room.now) c.self.inside.place c.min-came.result
-    (grind (arith, common_steps, after)) (grind (arith, common_steps))
+    record {
+      within = grind (arith, common_steps);
+      came = sym coming ∙ came_front c.self.inside.coming.items c.copy_from_slice.new.self (drop c.min-came.result c.args.room.now) c.self.inside.place c.min-came.result
+          (grind (arith, common_steps, after)) (grind (arith, common_steps));
+      end = λ none. grind (arith, common_steps, coming, none);
+    }
