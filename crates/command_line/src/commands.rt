@@ -1,6 +1,6 @@
 // The words of a command line.
 
-ghost use Rattle.std.specs.Prelude.{◌≡◌, ◌≤◌, [], ◌∷◌, codes, drop, false, length, true, option_and_then, option_map, IfOk, IfSome, OnErr};
+ghost use Rattle.std.specs.Prelude.{◌≡◌, ◌≤◌, [], ◌∷◌, codes, drop, false, length, nat_eq, true, option_and_then, option_map, IfOk, IfSome, OnErr};
 ghost use Rattle.std.specs.Char.{is_ascii_digit};
 ghost use Rattle.std.specs.List.{list_all};
 ghost use Rattle.clap.specs.Words.{app_of, fault_of, first_of, found_of, rows_of, shape_of, subcommand_of, subcommand_rows_of, with_subcommand, new_app};
@@ -106,12 +106,18 @@ pub fn are_plain(words: &[Word]) -> bool
     words.iter().all(|word| is_plain(word.as_str()))
 }
 
+fn is_dash(byte: u8) -> bool
+    ensures { result ≡ nat_eq byte 45 }
+{
+    byte == b'-'
+}
+
 fn is_plain(word: &str) -> bool
     ensures { result ≡ is_plain word.now }
 {
     match word.as_bytes() {
         [] => false,
-        [first, ..] => *first != b'-',
+        [first, ..] => !is_dash(*first),
     }
 }
 

@@ -78,7 +78,7 @@ impl Console {
         ensures put { result ≡ true → self.new ≡ record self.old { bytes = self.old.bytes ++ byte ∷ [] } }
         ensures full { result ≢ true → self.new ≡ self.old }
     {
-        if (self.bytes.len() as u64) < self.room {
+        if self.has_room() {
             self.bytes.push_reserved(byte);
             true
         } else {
@@ -120,6 +120,13 @@ impl Console {
             Some(&(moment, _)) => moment <= clock,
             None => false,
         }
+    }
+
+    // Whether there is room for another byte.
+    fn has_room(&self) -> bool
+        ensures { result ≡ has_room self.now }
+    {
+        (self.bytes.len() as u64) < self.room
     }
 
     /// Whether there is no room for another byte.

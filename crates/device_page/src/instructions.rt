@@ -2,11 +2,13 @@
 
 ghost use Rattle.std.specs.Prelude.{◌≡◌};
 ghost use Rattle.op_defs.specs.declared.ops.Purpose.TheVariants.{Store};
+ghost use Rattle.arch_defs.specs.Registers.{sets};
+ghost use Rattle.arch_defs.specs.Widths.{extended};
 ghost use Rattle.machine_defs.specs.DeviceSteps.{device_completed};
 ghost use Rattle.device_page.specs.Ends.{IsServed};
 
 use crate::accesses::access;
-use arch_defs::{Virtual, Width, extend};
+use arch_defs::{Reg, Virtual, Width, extend};
 use console_dev::Console;
 use op_defs::Purpose;
 
@@ -28,7 +30,7 @@ pub fn serve(
         Purpose::Load { signed, rd } => {
             match access(offset, width.bytes(), None, console, clock) {
                 Some(value) => {
-                    state.set(rd, extend(width, signed, value));
+                    set_loaded(state, width, signed, rd, value);
                     true
                 }
                 None => false,
@@ -40,6 +42,13 @@ pub fn serve(
         | Purpose::StoreReserved { .. }
         | Purpose::Modify { .. } => false,
     }
+}
+
+// Sets what a load gives, and has pc go on.
+fn set_loaded(state: &mut Virtual, width: Width, signed: bool, rd: Reg, value: u64)
+    ensures { state.new ≡ sets state.old rd (extended width signed value) }
+{
+    state.set(rd, extend(width, signed, value));
 }
 
 // A store, whose clock does not count.

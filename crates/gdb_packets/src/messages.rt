@@ -1,6 +1,6 @@
 // What a stream of bytes begins with.
 
-ghost use Rattle.std.specs.Prelude.{◌≡◌, ◌+◌, ◌^◌, ◌<◌, ◌≤◌, drop, length, IfOk};
+ghost use Rattle.std.specs.Prelude.{◌≡◌, ◌==◌, ◌+◌, ◌^◌, ◌<◌, ◌≤◌, drop, length, IfOk};
 ghost use Rattle.gdb_packets.specs.Frames.{body_length, checksum, is_sum, message_in, packet_at, packet_in, single};
 ghost use Rattle.gdb_packets.specs.Digits.{pair_value};
 ghost use Rattle.gdb_packets.specs.Streams.{IsBeginning};
@@ -101,12 +101,19 @@ fn body_length(rest: &[u8], searched: usize) -> usize
     place
 }
 
+// Whether the sum that a packet gives is that of its data.
+fn is_same(given: u8, sum: u8) -> bool
+    ensures { result ≡ (given == sum) }
+{
+    given == sum
+}
+
 // Whether two digits give this sum.
 fn is_sum(high: u8, low: u8, sum: u8) -> bool
     ensures { result ≡ is_sum (pair_value high low) sum }
 {
     match pair_value(high, low) {
-        Some(given) => given == sum,
+        Some(given) => is_same(given, sum),
         None => false,
     }
 }

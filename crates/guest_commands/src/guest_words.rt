@@ -1,6 +1,6 @@
 // Words that name a configuration and a guest, as those of a save do.
 
-ghost use Rattle.std.specs.Prelude.{◌≡◌, ◌∷◌, codes, option_map};
+ghost use Rattle.std.specs.Prelude.{◌≡◌, ◌∷◌, None, codes, option_map, if◌then◌else◌};
 ghost use Rattle.command_line.specs.Commands.{OnFiles, asked_by};
 ghost use Rattle.guest_commands.specs.GuestWords.{guest_command, saving_command};
 
@@ -22,9 +22,16 @@ pub fn guest_request<'a>(words: &'a [Word]) -> Option<GuestRequest<'a>>
         ≡ saving_command words.entry.now }
 {
     match words {
-        [_, rest @ ..] if are_plain(rest) => request_by(rest),
+        [_, rest @ ..] => if_plain(are_plain(rest), request_by(rest)),
         _ => None,
     }
+}
+
+// A request of words that are plain: others ask for nothing.
+fn if_plain<'a>(plain: bool, request: Option<GuestRequest<'a>>) -> Option<GuestRequest<'a>>
+    ensures { result ≡ (if plain then request.entry else None) }
+{
+    if plain { request } else { None }
 }
 
 // The same of the words after the program's name.

@@ -46,13 +46,20 @@ fn own_steps(guest: u32, turns: &[(u32, u64)]) -> u64
     sum
 }
 
+// Where the source of a guest stands.
+fn place_of(guest: u32) -> usize
+    ensures { result ≡ guest }
+{
+    guest as usize
+}
+
 // The source of this number.
 fn source_at(sources: Vec<Source>, guest: u32) -> Source
     requires { guest < length sources.items }
     ensures { result ≡ slice_index_or sources.items guest result }
 {
     let mut sources = sources;
-    sources.swap_remove(guest as usize)
+    sources.swap_remove(place_of(guest))
 }
 
 // The guest of this number of a job.

@@ -1,6 +1,6 @@
 //! The tests of a guest, in their order, and its settings.
 
-ghost use Rattle.std.specs.Prelude.{◌≡◌, ◌≤◌, bytes_eq, is_some, length, IfOk, IfSome};
+ghost use Rattle.std.specs.Prelude.{◌≡◌, ◌&&◌, not, ◌≤◌, bytes_eq, is_some, length, IfOk, IfSome};
 ghost use Rattle.std.specs.List.{list_any};
 ghost use Rattle.toml.specs.View.{table_view};
 ghost use Rattle.run_config.specs.Answers.{AnswersWith};
@@ -63,12 +63,19 @@ fn is_taken(guests: &[GuestSettings], name: &str) -> bool
         .any(|guest| name.as_bytes() == guest.name.as_slice())
 }
 
+// Whether a name is new, which has its form or not, and which a guest before has or not.
+fn is_new(has_form: bool, is_taken: bool) -> bool
+    ensures { result ≡ (has_form && not is_taken) }
+{
+    has_form && !is_taken
+}
+
 // Whether the name has its form, and no guest before has it.
 #[tactic(auto, unfolding(crate::specs::Guests::is_new_name), using(crate::proofs::Guesting::names))]
 fn is_new_name(guests: &[GuestSettings], name: &str) -> bool
     ensures { result ≡ is_new_name (names_of guests.now) name.now }
 {
-    is_name(name) && !is_taken(guests, name)
+    is_new(is_name(name), is_taken(guests, name))
 }
 
 // The name of the file at a key.

@@ -57,6 +57,20 @@ fn add_state(kept: &mut Vec<Kept>, state: Kept)
     let _ = kept.push(state);
 }
 
+// The place of the next state that is to be kept, where it comes before a later place and the machine goes on;
+// else that later place.
+fn place_before(place: u64, next: u64, n: u64, goes_on: bool) -> u64
+    requires { place < n }
+    ensures later { place < result }
+    ensures within { result ≤ n }
+{
+    if goes_on && place < next && next < n {
+        next
+    } else {
+        n
+    }
+}
+
 impl<R: Runner + Drop> Positions<R> {
     /// The run of a machine, at its start.
     #[tactic(auto, using(crate::proofs::Moving::begun))]
@@ -144,11 +158,7 @@ impl<R: Runner + Drop> Positions<R> {
         ensures later { self.old.place < self.new.place }
         ensures within { self.new.place ≤ n }
     {
-        let to = if self.place < self.next && self.next < n && goes_on(self.runner.status()) {
-            self.next
-        } else {
-            n
-        };
+        let to = place_before(self.place, self.next, n, goes_on(self.runner.status()));
         self.run_on(to - self.place);
         if self.place == self.next {
             self.keep();

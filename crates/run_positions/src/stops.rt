@@ -1,6 +1,6 @@
 // Where a run is to stop.
 
-ghost use Rattle.std.specs.Prelude.{◌≡◌, ◌∷◌, [], ◌++◌, ◌==◌, OnErr, OnOk};
+ghost use Rattle.std.specs.Prelude.{◌≡◌, ◌∷◌, [], ◌++◌, ◌==◌, ◌||◌, not, OnErr, OnOk};
 ghost use Rattle.std.specs.List.{list_any};
 ghost use Rattle.run_positions.specs.Stops.{has_changed, goes_on, stops_at, is_end};
 
@@ -67,8 +67,15 @@ impl Stops {
     pub fn end<R: Runner>(&self, runner: &R) -> bool
         ensures { result ≡ is_end self.now (R.machine runner.now) }
     {
-        self.hold(runner) || !goes_on(runner.status())
+        is_end(self.hold(runner), goes_on(runner.status()))
     }
+}
+
+// Whether a run ends where a stop holds or not, and the machine goes on or not.
+fn is_end(is_stop: bool, goes_on: bool) -> bool
+    ensures { result ≡ (is_stop || not goes_on) }
+{
+    is_stop || !goes_on
 }
 
 // Whether a machine of this status goes on.
@@ -88,13 +95,19 @@ fn has_pc(pcs: &[u64], pc: u64) -> bool
     pcs.contains(&pc)
 }
 
+fn is_other(byte: u8, value: u8) -> bool
+    ensures { result ≡ not (byte == value) }
+{
+    byte != value
+}
+
 // Whether one of these bytes differs.
 fn has_change<R: Runner>(bytes: &[(u64, u8)], runner: &R) -> bool
     ensures { result ≡ list_any (has_changed (R.machine runner.now)) bytes.now }
 {
     for i in 0..bytes.len() {
         let (offset, value) = bytes[i];
-        if runner.byte(offset) != value {
+        if is_other(runner.byte(offset), value) {
             return true;
         }
     }
