@@ -1,11 +1,12 @@
 // Cases of a file, each of which asks once, whole and cut.
 
+use crate::checkers::FileBlock;
 use crate::faults::{Fault, told_fault};
 use crate::guests::Guests;
 use crate::outcome::Outcome;
-use crate::suite::Block;
 use crate::terms::Names;
 use no_memory::NoMemory;
+use std::alloc::Global;
 
 // The unit of the lines that a case wants.
 const LINES: usize = 1;
@@ -15,6 +16,9 @@ pub const CUTS: usize = 2;
 
 /// What the lines of a case have said so far.
 pub trait CaseLines<'a>: Drop {
+    /// A case of this name, of which no line has been taken yet.
+    fn new(alloc: Global, name: &'a str, guests: Guests<'a>) -> Self;
+
     fn guests(&mut self) -> &mut Guests<'a>;
 
     /// Takes a line of this word and what follows, if it is one that this kind of case alone knows.
@@ -30,19 +34,20 @@ pub trait CaseLines<'a>: Drop {
     fn tell_cuts(&self, outcome: &mut Outcome) -> Result<bool, NoMemory>;
 }
 
-/// Tells where a case differs, of which no line has been taken yet.
+/// Tells where the case of this block differs.
 pub fn check_case<'a, C: CaseLines<'a>>(
-    mut case: C,
-    names: &Names<'_>,
-    block: &Block<'a>,
+    given: FileBlock<'_, 'a>,
     outcome: &mut Outcome,
-) -> Result<(), NoMemory> {
-    for line in block.lines.as_slice() {
-        let taken = take(&mut case, names, line);
+) -> Result<(), Fault> {
+    let alloc = *outcome.text.allocator();
+    let mut case = C::new(alloc, given.block.name, Guests::new(alloc)?);
+    for line in given.block.lines.as_slice() {
+        let taken = take(&mut case, given.names, line);
         told_fault(taken, line, &mut outcome.text)?;
     }
     let ended = end(&mut case, outcome);
-    told_fault(ended, "end", &mut outcome.text)
+    told_fault(ended, "end", &mut outcome.text)?;
+    Ok(())
 }
 
 fn take<'a, C: CaseLines<'a>>(case: &mut C, names: &Names<'_>, line: &'a str) -> Result<(), Fault> {

@@ -9,28 +9,24 @@ use std::alloc::{AllocError, Global};
 use std::rt::Files;
 use std::{fs, io};
 
-static ROWS: [&str; 1] = ["rows"];
+/// A block of a file, and the names that the file defines.
+#[derive(Clone, Copy)]
+pub struct FileBlock<'s, 'a> {
+    pub file: &'s str,
+    pub names: &'s Names<'a>,
+    pub block: &'s Block<'a>,
+}
 
 /// What checks the blocks of a file. They are groups of rows unless it says otherwise.
 pub trait Checker {
     /// The kinds of its blocks, beside parts.
-    fn kinds(&self) -> &'static [&'static str] {
-        &ROWS
-    }
+    const KINDS: &'static [&'static str] = &["rows"];
 
     /// What it counts in a file, beginning with cases or rows, or nothing.
-    fn units(&self) -> &'static [&'static str] {
-        &ROWS
-    }
+    const UNITS: &'static [&'static str] = &["rows"];
 
     /// Tells where a block differs.
-    fn check(
-        &self,
-        file: &str,
-        names: &Names<'_>,
-        block: &Block<'_>,
-        outcome: &mut Outcome,
-    ) -> Result<(), Fault>;
+    fn check(&self, given: FileBlock<'_, '_>, outcome: &mut Outcome) -> Result<(), Fault>;
 }
 
 /// Tells where the files differ that standard input names.
@@ -71,15 +67,15 @@ fn tell<C: Checker>(
     text: &str,
     outcome: &mut Outcome,
 ) -> Result<(), NoMemory> {
-    let suite = Suite::of(
-        *outcome.text.allocator(),
-        checker.kinds(),
-        text,
-        &mut outcome.text,
-    )?;
+    let suite = Suite::of(*outcome.text.allocator(), C::KINDS, text, &mut outcome.text)?;
     for block in suite.blocks() {
-        let checked = checker.check(file, suite.names(), block, outcome);
+        let given = FileBlock {
+            file,
+            names: suite.names(),
+            block,
+        };
+        let checked = checker.check(given, outcome);
         told_fault(checked, block.name, &mut outcome.text)?;
     }
-    outcome.tell_count(file, checker.units())
+    outcome.tell_count(file, C::UNITS)
 }

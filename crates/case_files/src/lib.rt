@@ -20,7 +20,7 @@ mod text;
 mod values;
 
 pub use cases::{CUTS, CaseLines, check_case};
-pub use checkers::{Checker, tell_files};
+pub use checkers::{Checker, FileBlock, tell_files};
 pub use configuration::{Configuration, Turns};
 pub use ends::End;
 pub use faults::{Fault, told_fault};

@@ -2,9 +2,9 @@
 
 ghost use Rattle.std.specs.Prelude.{◌≤◌, length};
 
+use crate::checkers::FileBlock;
 use crate::faults::Fault;
 use crate::outcome::Outcome;
-use crate::suite::Block;
 use crate::terms::Names;
 use no_memory::NoMemory;
 use std::alloc::Global;
@@ -27,12 +27,10 @@ pub trait RowLines<'a>: Drop {
 
 /// Tells which rows of a group differ. Its lines before the first row are of each of them.
 pub fn check_rows<'a, R: RowLines<'a>>(
-    file: &str,
-    names: &Names<'_>,
-    block: &Block<'a>,
+    given: FileBlock<'_, 'a>,
     outcome: &mut Outcome,
 ) -> Result<(), Fault> {
-    let lines = block.lines.as_slice();
+    let lines = given.block.lines.as_slice();
     let first = row_from(lines, 0);
     if first == lines.len() {
         return Err(Fault::Line);
@@ -40,7 +38,7 @@ pub fn check_rows<'a, R: RowLines<'a>>(
     for at in first..lines.len() {
         if lines[at].starts_with(ROW) {
             let own = &lines[at..row_from(lines, at + 1)];
-            check_row::<R>(file, names, &lines[..first], own, outcome)?;
+            check_row::<R>(given.file, given.names, &lines[..first], own, outcome)?;
         }
     }
     Ok(())

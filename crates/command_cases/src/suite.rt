@@ -1,31 +1,18 @@
 // A file of cases and tables.
 
 use crate::{case, table};
-use case_files::{Block, Checker, Fault, Names, Outcome};
-
-static KINDS: [&str; 2] = ["case", "table"];
-
-static NO_UNITS: [&str; 0] = [];
+use case_files::{Checker, Fault, FileBlock, Outcome};
 
 /// What tells the answers of cases and tables, and leaves it to others to compare them.
 pub struct Answers;
 
 impl Checker for Answers {
-    fn kinds(&self) -> &'static [&'static str] {
-        &KINDS
-    }
+    const KINDS: &'static [&'static str] = &["case", "table"];
 
-    fn units(&self) -> &'static [&'static str] {
-        &NO_UNITS
-    }
+    const UNITS: &'static [&'static str] = &[];
 
-    fn check(
-        &self,
-        _file: &str,
-        names: &Names<'_>,
-        block: &Block<'_>,
-        outcome: &mut Outcome,
-    ) -> Result<(), Fault> {
+    fn check(&self, given: FileBlock<'_, '_>, outcome: &mut Outcome) -> Result<(), Fault> {
+        let FileBlock { names, block, .. } = given;
         let answers = &mut outcome.text;
         let alloc = *answers.allocator();
         let lines = block.lines.as_slice();

@@ -24,19 +24,6 @@ pub struct Case<'a> {
 }
 
 impl<'a> Case<'a> {
-    pub fn new(alloc: Global, name: &'a str) -> Result<Case<'a>, NoMemory> {
-        Ok(Case {
-            alloc,
-            name,
-            guests: Guests::new(alloc)?,
-            words: "nesthv-gdb k 0",
-            description: Vec::new(alloc),
-            rows: Rows::new(alloc),
-            end: End::done(),
-            is_cut: false,
-        })
-    }
-
     fn describe(&mut self, text: &str) -> Result<(), Fault> {
         push_unescaped(&mut self.description, quoted(text).ok_or(Fault::Line)?)
     }
@@ -116,6 +103,19 @@ impl<'a> Case<'a> {
 }
 
 impl<'a> CaseLines<'a> for Case<'a> {
+    fn new(alloc: Global, name: &'a str, guests: Guests<'a>) -> Case<'a> {
+        Case {
+            alloc,
+            name,
+            guests,
+            words: "nesthv-gdb k 0",
+            description: Vec::new(alloc),
+            rows: Rows::new(alloc),
+            end: End::done(),
+            is_cut: false,
+        }
+    }
+
     fn guests(&mut self) -> &mut Guests<'a> {
         &mut self.guests
     }

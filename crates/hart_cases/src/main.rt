@@ -13,7 +13,7 @@ mod translations;
 mod values;
 mod wanted;
 
-use case_files::{Block, Checker, Fault, Names, Outcome, check_rows, tell_files};
+use case_files::{Checker, Fault, FileBlock, Outcome, check_rows, tell_files};
 use row::Row;
 use std::io;
 
@@ -21,14 +21,8 @@ use std::io;
 struct HartRows;
 
 impl Checker for HartRows {
-    fn check(
-        &self,
-        file: &str,
-        names: &Names<'_>,
-        block: &Block<'_>,
-        outcome: &mut Outcome,
-    ) -> Result<(), Fault> {
-        check_rows::<Row<'_>>(file, names, block, outcome)
+    fn check(&self, given: FileBlock<'_, '_>, outcome: &mut Outcome) -> Result<(), Fault> {
+        check_rows::<Row<'_>>(given, outcome)
     }
 }
 

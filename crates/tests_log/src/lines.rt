@@ -105,7 +105,9 @@ const TRAPS: [Row; 5] = [
                 htinst: u64::MAX,
             },
         }),
-        text: b"trap 18446744073709551615 VS ffffffffffffffff to HS interrupt 18446744073709551615 tval ffffffffffffffff gpa ffffffffffffffff gva 1 htinst ffffffffffffffff\n",
+        text: b"\
+            trap 18446744073709551615 VS ffffffffffffffff to HS interrupt 18446744073709551615 tval \
+            ffffffffffffffff gpa ffffffffffffffff gva 1 htinst ffffffffffffffff\n",
     },
 ];
 
@@ -272,14 +274,18 @@ const TRANSLATIONS: [Row; 4] = [
             head: HEAD,
             filled: SECOND,
         }),
-        text: b"fill 14 VS 0000000000000008 second hgatp 8000100000080004 atp - page 1000 frame 8000b000 rights rw-u level 0\n",
+        text: b"\
+            fill 14 VS 0000000000000008 second hgatp 8000100000080004 atp - page 1000 frame 8000b000 \
+            rights rw-u level 0\n",
     },
     Row {
         line: Line::Fill(FillLine {
             head: IN_HS,
             filled: FIRST,
         }),
-        text: b"fill 40 HS 0000000080000064 first hgatp - atp 8000000000080001 page ffffffc000000000 frame 80000000 rights --x- level 2\n",
+        text: b"\
+            fill 40 HS 0000000080000064 first hgatp - atp 8000000000080001 page ffffffc000000000 frame \
+            80000000 rights --x- level 2\n",
     },
     Row {
         line: Line::Stale(StaleLine {
@@ -292,7 +298,9 @@ const TRANSLATIONS: [Row; 4] = [
             }),
             since: Some(3),
         }),
-        text: b"stale 14 VS 0000000000000008 second hgatp 8000100000080004 atp - page 1000 frame 8000b000 rights rw-u level 0 now frame 80010000 rights r--u level 0 since 3\n",
+        text: b"\
+            stale 14 VS 0000000000000008 second hgatp 8000100000080004 atp - page 1000 frame 8000b000 \
+            rights rw-u level 0 now frame 80010000 rights r--u level 0 since 3\n",
     },
     Row {
         line: Line::Stale(StaleLine {
@@ -301,7 +309,9 @@ const TRANSLATIONS: [Row; 4] = [
             walked: None,
             since: None,
         }),
-        text: b"stale 40 HS 0000000080000064 first hgatp - atp 8000000000080001 page ffffffc000000000 frame 80000000 rights --x- level 2 now nothing since before\n",
+        text: b"\
+            stale 40 HS 0000000080000064 first hgatp - atp 8000000000080001 page ffffffc000000000 \
+            frame 80000000 rights --x- level 2 now nothing since before\n",
     },
 ];
 

@@ -28,20 +28,6 @@ const WRITE_FAULT: End<'static> = End {
 };
 
 impl<'a> Case<'a> {
-    pub fn new(alloc: Global, name: &'a str) -> Result<Case<'a>, NoMemory> {
-        Ok(Case {
-            alloc,
-            name,
-            guests: Guests::new(alloc)?,
-            words: "nesthv-trace k 0",
-            log: "traps",
-            lines: 0,
-            wanted: Vec::new(alloc),
-            end: End::done(),
-            is_cut: false,
-        })
-    }
-
     fn ask(&mut self, words: &'a str, log: &'a str) {
         self.words = words;
         self.log = log;
@@ -73,6 +59,20 @@ impl<'a> Case<'a> {
 }
 
 impl<'a> CaseLines<'a> for Case<'a> {
+    fn new(alloc: Global, name: &'a str, guests: Guests<'a>) -> Case<'a> {
+        Case {
+            alloc,
+            name,
+            guests,
+            words: "nesthv-trace k 0",
+            log: "traps",
+            lines: 0,
+            wanted: Vec::new(alloc),
+            end: End::done(),
+            is_cut: false,
+        }
+    }
+
     fn guests(&mut self) -> &mut Guests<'a> {
         &mut self.guests
     }

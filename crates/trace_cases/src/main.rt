@@ -7,35 +7,19 @@ mod logged;
 mod saves;
 
 use case::Case;
-use case_files::{Block, Checker, Fault, Names, Outcome, check_case, tell_files};
+use case_files::{Checker, Fault, FileBlock, Outcome, check_case, tell_files};
 use std::io;
 
 /// What checks logs.
 struct Logs;
 
-static KINDS: [&str; 1] = ["case"];
-
-static UNITS: [&str; 3] = ["cases", "lines", "cuts"];
-
 impl Checker for Logs {
-    fn kinds(&self) -> &'static [&'static str] {
-        &KINDS
-    }
+    const KINDS: &'static [&'static str] = &["case"];
 
-    fn units(&self) -> &'static [&'static str] {
-        &UNITS
-    }
+    const UNITS: &'static [&'static str] = &["cases", "lines", "cuts"];
 
-    fn check(
-        &self,
-        _file: &str,
-        names: &Names<'_>,
-        block: &Block<'_>,
-        outcome: &mut Outcome,
-    ) -> Result<(), Fault> {
-        let case = Case::new(*outcome.text.allocator(), block.name)?;
-        check_case(case, names, block, outcome)?;
-        Ok(())
+    fn check(&self, given: FileBlock<'_, '_>, outcome: &mut Outcome) -> Result<(), Fault> {
+        check_case::<Case<'_>>(given, outcome)
     }
 }
 

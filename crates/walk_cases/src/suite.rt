@@ -1,7 +1,7 @@
 // A file of rows.
 
 use crate::row::{is_right, row_in};
-use case_files::{Block, Checker, Fault, Names, Outcome};
+use case_files::{Checker, Fault, FileBlock, Names, Outcome};
 use no_memory::NoMemory;
 use std::alloc::Global;
 
@@ -10,18 +10,12 @@ pub struct WalkRows;
 
 impl Checker for WalkRows {
     // Each line of a block is a row.
-    fn check(
-        &self,
-        file: &str,
-        names: &Names<'_>,
-        block: &Block<'_>,
-        outcome: &mut Outcome,
-    ) -> Result<(), Fault> {
+    fn check(&self, given: FileBlock<'_, '_>, outcome: &mut Outcome) -> Result<(), Fault> {
         let alloc = *outcome.text.allocator();
-        for line in block.lines.as_slice() {
-            let difference = difference_of(alloc, names, line)?;
+        for line in given.block.lines.as_slice() {
+            let difference = difference_of(alloc, given.names, line)?;
             if let Some(difference) = difference {
-                let name = block.name;
+                let (file, name) = (given.file, given.block.name);
                 writeln!(outcome.text, "{file}: {name}: {difference}: {line}")?;
             }
             outcome.count(difference.is_some());
