@@ -1,6 +1,6 @@
 // One guest on the hart, as what runs a machine.
 
-ghost use Rattle.std.specs.Prelude.{◌≡◌, ◌≤◌, ◌∷◌, [], IfOk, ℕ, false};
+ghost use Rattle.std.specs.Prelude.{◌≡◌, ◌↔◌, ◌/◌, ◌<◌, ◌≤◌, ◌∷◌, [], IfOk, IsTrue, ℕ, false};
 ghost use Rattle.arch_defs.specs.Frames.{most_frames};
 ghost use Rattle.frame_split.specs.Shares.{frames_with};
 ghost use Rattle.guest_save.specs.Reading.{machine_in};
@@ -70,6 +70,13 @@ pub fn booted(alloc: Global, source: Source) -> Result<Host, NoMemory>
     Host::boot_from(alloc, sources, 0)
 }
 
+// Whether the block of an offset into RAM is one of that many.
+fn is_backed(offset: u64, blocks: u64) -> bool
+    ensures { IsTrue result ↔ (offset / 2097152 < blocks) }
+{
+    offset / BLOCK_SIZE < blocks
+}
+
 impl Runner for HostRun {
     ghost machine = { λ run. run };
 
@@ -100,7 +107,7 @@ impl Runner for HostRun {
     fn byte(&self, offset: u64) -> u8 {
         let view = self.host.view(0);
         view.has_whole_blocks();
-        if offset / BLOCK_SIZE < view.header().blocks {
+        if is_backed(offset, view.header().blocks) {
             view.byte(offset)
         } else {
             0

@@ -101,6 +101,13 @@ fn has_input(inputs: &[(u64, u8)], time: u64) -> bool
     }
 }
 
+// Whether the moment of a header's timer has come.
+fn is_timer_due(header: &Header) -> bool
+    ensures { result ≡ nat_le header.now.timer header.now.time }
+{
+    header.timer <= header.time
+}
+
 // The header of a machine with this number of blocks and these inputs: without first-stage translations, and
 // with the bits that the clock and the console set.
 fn completed(header: Header, inputs: &[(u64, u8)], blocks: u64) -> Header
@@ -115,7 +122,7 @@ fn completed(header: Header, inputs: &[(u64, u8)], blocks: u64) -> Header
 {
     let mut header = header;
     header.blocks = blocks;
-    header.state.csrs.sip.timer = header.timer <= header.time;
+    header.state.csrs.sip.timer = is_timer_due(&header);
     header.state.csrs.sip.external = has_input(inputs, header.time);
     header.state.csrs.time = header.time;
     header.state.first = FirstBuffer::new();

@@ -1,6 +1,6 @@
 // A report that is compared with a stored one while it is written.
 
-ghost use Rattle.std.specs.Prelude.{◌≡◌, ◌+◌, ◌≤◌, ℕ, List, drop, false, length};
+ghost use Rattle.std.specs.Prelude.{◌≡◌, ◌+◌, ◌≤◌, ◌||◌, ℕ, List, drop, false, if◌then◌else◌, length, nat_lt};
 ghost use Rattle.replay.specs.Comparisons.{agreeing, Saw, verdict_of};
 
 use outside::{Sink, SinkFault};
@@ -55,11 +55,7 @@ impl<'a> Compare<'a> {
     pub fn verdict(&self) -> Verdict
         ensures { (bytes : List ℕ) → Saw self.now bytes → result ≡ verdict_of self.now.expected bytes }
     {
-        if self.differs || self.place < self.expected.len() {
-            Verdict::Differs(self.place as u64)
-        } else {
-            Verdict::Same
-        }
+        verdict_at(self.place, self.expected.len(), self.differs)
     }
 }
 
@@ -80,6 +76,17 @@ impl<'a> Sink for Compare<'a> {
             self.differs = alike < piece.len();
         }
         Ok(())
+    }
+}
+
+// What a comparison says at its place among this many expected bytes; `more` where further bytes came.
+fn verdict_at(place: usize, length: usize, more: bool) -> Verdict
+    ensures { result ≡ (if more || nat_lt place length then Verdict.Differs place else Verdict.Same) }
+{
+    if more || place < length {
+        Verdict::Differs(place as u64)
+    } else {
+        Verdict::Same
     }
 }
 

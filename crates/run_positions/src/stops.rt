@@ -95,6 +95,7 @@ fn has_pc(pcs: &[u64], pc: u64) -> bool
     pcs.contains(&pc)
 }
 
+// Whether a byte differs from the value that it is watched for.
 fn is_other(byte: u8, value: u8) -> bool
     ensures { result ≡ not (byte == value) }
 {

@@ -1,6 +1,6 @@
 // What the hart has for a guest, and what the guest has after the hart has run.
 
-ghost use Rattle.std.specs.Prelude.{◌≡◌, ◌<◌, ◌≤◌, ◌==◌, length, true, false, IfSome};
+ghost use Rattle.std.specs.Prelude.{◌≡◌, ◌<◌, ◌≤◌, ◌%◌, ◌==◌, ◌&&◌, length, nat_lt, true, false, IfSome};
 ghost use Rattle.std.specs.List.{position};
 ghost use Rattle.arch_defs.specs.Registers.{clear_hypervisor_status, clear_interrupts};
 ghost use Rattle.arch_defs.specs.Traps.{is_virtual};
@@ -201,7 +201,14 @@ fn is_space_root(part: &Part, frame: u64) -> bool
     ensures { result ≡ is_space_root part.now frame }
 {
     let first = part.host_root();
-    first < frame && frame < first + 4 * (1 + part.spaces()) && frame % 4 == 0
+    begins_later_root(first, frame, first + 4 * (1 + part.spaces()))
+}
+
+// Whether a root begins at a frame behind that of a first root, before an end.
+fn begins_later_root(first: u64, frame: u64, end: u64) -> bool
+    ensures { result ≡ (nat_lt first frame && (nat_lt frame end && frame % 4 == 0)) }
+{
+    first < frame && frame < end && frame % 4 == 0
 }
 
 // The table whose root begins at a frame, with VMID 0.
