@@ -106,6 +106,7 @@ pub fn are_plain(words: &[Word]) -> bool
     words.iter().all(|word| is_plain(word.as_str()))
 }
 
+// Whether a byte is the dash that begins an option.
 fn is_dash(byte: u8) -> bool
     ensures { result ≡ nat_eq byte 45 }
 {

@@ -1,10 +1,10 @@
 // The talk with gdb, on a connection.
 
-ghost use Rattle.std.specs.Prelude.{◌≡◌, ◌≤◌, ◌++◌, [], codes, IfOk, IsErrOf, OnOk};
+ghost use Rattle.std.specs.Prelude.{◌≡◌, ◌≤◌, ◌++◌, [], codes, is_ok, IfOk, IsErrOf, OnOk};
 ghost use Rattle.gdb_packets.specs.declared.messages.Message.TheVariants.{Packet};
 ghost use Rattle.outside.specs.Faults.{Rose};
 ghost use Rattle.gdb_stub.specs.Sessions.{recording_of, state_after, session_state, ShowsPosition, KeepsSession};
-ghost use Rattle.gdb_stub.specs.Talks.{early_end, is_kill, is_last, packet_for, talk_of, HasCauses, HasCome, HasGoneOn, HasHeard, HasTalked, OnlySends};
+ghost use Rattle.gdb_stub.specs.Talks.{early_end, is_kill, is_last, packet_for, talk_of, HasCauses, HasCome, HasGoneOn, HasHeard, HasSaid, HasTalked, OnlySends};
 ghost use Rattle.gdb_stub.specs.declared.talks.TalkEnd.TheVariants as talk_end;
 
 use crate::sessions::Session;
@@ -80,6 +80,22 @@ fn acknowledged(alloc: Global, packet: &[u8]) -> Result<Vec<u8>, NoMemory>
     Ok(said)
 }
 
+// Says that a packet has come, and answers it with a packet.
+#[tactic(auto, using(crate::proofs::Talking::sayings))]
+fn acknowledge<C: Connection>(
+    alloc: Global,
+    packet: &[u8],
+    connection: &mut C,
+) -> Result<(), TalkEnd>
+    ensures said { HasSaid C.Connection (is_ok result) (codes "+" ++ packet.now)
+        connection.old connection.new }
+    ensures causes { OnlySends C.Connection result connection.old connection.new }
+{
+    let said = acknowledged(alloc, packet)?;
+    connection.send(said.as_slice())?;
+    Ok(())
+}
+
 // A piece of what comes, behind what has come; whether there is more.
 #[tactic(auto, using(crate::proofs::Talking::comings))]
 fn receive<C: Connection>(connection: &mut C, come: &mut Unread) -> Result<bool, TalkEnd>
@@ -149,8 +165,7 @@ impl<R: Runner + Drop> Talk<R> {
     {
         let command = command_of(alloc, payload)?;
         self.sent = self.obey(alloc, command)?;
-        let said = acknowledged(alloc, self.sent.as_slice())?;
-        connection.send(said.as_slice())?;
+        acknowledge(alloc, self.sent.as_slice(), connection)?;
         Ok(!is_last(command))
     }
 

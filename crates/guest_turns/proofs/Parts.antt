@@ -13,7 +13,7 @@ use Rattle.guest_exit.specs.Steps.{Fills, IsQuiet, MakesStep}
 use Rattle.guest_exit.specs.View.{machine_of, platform_of}
 use Rattle.rv64_hart.specs.Counts.{Counts}
 use Rattle.guest_turns.specs.Account.{AccountedTo}
-use Rattle.guest_turns.specs.Hosting.{IsHosted, used_by}
+use Rattle.guest_turns.specs.Hosting.{CountsLeft, IsHosted, used_by}
 use Rattle.guest_turns.specs.Calm.{AreCalm}
 use Rattle.guest_turns.proofs.CalmSteps.{no_calm_exit}
 use Rattle.guest_turns.proofs.Current.{after_fill, after_step}
@@ -32,6 +32,17 @@ pub entered_part : (guest same new : Guest) (memory changed : List ℕ) (left ta
     → Made (machine_of guest memory) left (machine_of new changed) (left - taken) (events (machine_of guest memory) taken)
 entered_part guest same new memory changed left taken hosted is some few need ran =
     run_made (machine_of guest memory) (machine_of new changed) taken left hosted.placed.orderly.entries some few (rw is at need) (rw is at ran)
+
+-- how many steps are left after it
+pub entered_counts : (guest same new : Guest) (left taken : ℕ) → same ≡ guest → taken ≤ left → new.steps ≡ same.steps + taken → CountsLeft guest left new (left - taken)
+entered_counts guest same new left taken is few made =
+    let before : same.steps ≡ guest.steps = ap (λ guest. guest.steps) is in
+    record {
+      within = omega arith;
+      forward = omega (arith, before, made);
+      made = omega (arith, few, before, made);
+      others = λ _. omega (arith, few, before, made);
+    }
 
 -- and one after which it makes the next step, or a fill
 pub handed_part : (guest same between new : Guest) (memory changed last : List ℕ) (left taken : ℕ) (result : Handled) → IsHosted guest memory → same ≡ guest

@@ -4,7 +4,7 @@ use Rattle.guest_exit.proofs.Alone.{only_of_blocks, stays_by}
 use Rattle.guest_exit.specs.View.{changed_by, machine_of}
 use Rattle.guest_turns.proofs.CalmSteps.{first_calm, no_calm_trap}
 use Rattle.guest_turns.proofs.Current.{after_step}
-use Rattle.guest_turns.proofs.Parts.{entered_account, entered_part, handed_account, handed_current, handed_part, interrupt_part}
+use Rattle.guest_turns.proofs.Parts.{entered_account, entered_counts, entered_part, handed_account, handed_current, handed_part, interrupt_part}
 use Rattle.guest_turns.proofs.Placing.{fixed_both, only_then}
 use Rattle.guest_turns.proofs.Turns.{accounted_part, made_at_most, made_if_running, used_at_most}
 use Rattle.guest_turns.proofs.turning.advance.Goals as goal
@@ -28,6 +28,16 @@ returns-then-interrupt-clause-hosted c = record {
       after_step (machine_of c.args.guest.now c.args.memory.now) (machine_of c.interrupt.new.guest c.args.memory.now) c.requires.can.hosted.current
       ((c.interrupt.ensures.due.takes c.if-interrupt.true).step c.args.memory.now);
 }
+
+pub returns-then-interrupt-clause-counts : goal.returns-then-interrupt-clause-counts
+returns-then-interrupt-clause-counts c =
+    let made = (c.interrupt.ensures.due.takes c.if-interrupt.true).made in
+    record {
+      within = omega arith;
+      forward = omega (arith, made);
+      made = omega (arith, made, c.requires.can.some);
+      others = λ _. omega (arith, made, c.requires.can.some);
+    }
 
 pub returns-then-interrupt-clause-account : goal.returns-then-interrupt-clause-account
 returns-then-interrupt-clause-account c =
@@ -70,6 +80,12 @@ returns-in-Limit-clause-hosted c =
       current = c.enter-stop.ensures.entered.goes.current;
     }
 
+pub returns-in-Limit-clause-counts : goal.returns-in-Limit-clause-counts
+returns-in-Limit-clause-counts c =
+    let few : c.enter-stop.result.taken ≤ c.args.left = omega (arith, c.enter-stop.ensures.why.within, c.limit.ensures.longest.most) in
+    entered_counts c.args.guest.now c.interrupt.new.guest c.enter-stop.new.guest c.args.left c.enter-stop.result.taken
+    (c.interrupt.ensures.due.stays c.if-interrupt.false) few c.enter-stop.ensures.entered.goes.steps
+
 pub returns-in-Limit-clause-account : goal.returns-in-Limit-clause-account
 returns-in-Limit-clause-account c =
     let m = machine_of c.args.guest.now c.args.memory.now in
@@ -109,6 +125,12 @@ returns-in-VsTrap-clause-hosted c =
       clock = omega (arith, before, c.enter-stop.ensures.entered.goes.clock, c.enter-stop.ensures.entered.goes.steps);
       current = c.enter-stop.ensures.entered.goes.current;
     }
+
+pub returns-in-VsTrap-clause-counts : goal.returns-in-VsTrap-clause-counts
+returns-in-VsTrap-clause-counts c =
+    let few : c.enter-stop.result.taken ≤ c.args.left = omega (arith, c.enter-stop.ensures.why.within, c.limit.ensures.longest.most) in
+    entered_counts c.args.guest.now c.interrupt.new.guest c.enter-stop.new.guest c.args.left c.enter-stop.result.taken
+    (c.interrupt.ensures.due.stays c.if-interrupt.false) few c.enter-stop.ensures.entered.goes.steps
 
 pub returns-in-VsTrap-clause-account : goal.returns-in-VsTrap-clause-account
 returns-in-VsTrap-clause-account c =

@@ -1,0 +1,8 @@
+use Rattle.std.proofs.Common.{◌∙◌}
+use Rattle.command_line.proofs.Adding.{known, known_if}
+use Rattle.command_line.proofs.commands.reports_line.Goals as goal
+
+pub returns : goal.returns
+returns c =
+    let run = c.in_ok-run.ensures ∙ known _ _ _ _ c.bare.ensures c.in_ok-one_word.ensures.shape in
+    known_if c.with-2.result _ _ _ _ run c.in_ok-two_words.ensures.shape c.with-2.ensures
