@@ -1,5 +1,5 @@
 // Tests of the crates that the command stands on: its words, its configuration, its report, and what it reads
-// from and writes to.
+// from and writes to. Also of the lines of the log.
 #![tactic(auto)]
 
 #[cfg(test)]
@@ -16,6 +16,12 @@ mod images;
 mod input_files;
 #[cfg(test)]
 mod kept_forms;
+#[cfg(test)]
+mod log_kinds;
+#[cfg(test)]
+mod log_steps;
+#[cfg(test)]
+mod log_texts;
 #[cfg(test)]
 mod processes;
 #[cfg(test)]

@@ -11,8 +11,7 @@ use phys_mem::PhysMem;
 use shadow_pool::Pool;
 use std::alloc::Global;
 use std::test::Fail;
-use test_memory::part;
-use test_spaces::{PoolInMemory, empty_pool};
+use test_memory::{PoolInMemory, empty_pool, part};
 
 // A pool of two spaces.
 fn two_spaces(alloc: Global) -> Result<Option<PoolInMemory>, NoMemory>

@@ -12,8 +12,7 @@ use shadow_space::Space;
 use stage_walk::walk;
 use std::alloc::Global;
 use std::test::Fail;
-use test_memory::{Words, part};
-use test_spaces::{SpaceInMemory, empty_space};
+use test_memory::{SpaceInMemory, Words, empty_space, part};
 
 const PAGE: Entry = Entry {
     page: 0x10,
