@@ -1,12 +1,12 @@
 // The words of a command line.
 
-ghost use Rattle.std.specs.Prelude.{◌≡◌, ◌≤◌, [], ◌∷◌, codes, drop, false, length, nat_eq, true, option_and_then, option_map, IfOk, IfSome, OnErr};
+ghost use Rattle.std.specs.Prelude.{◌≡◌, ◌-◌, ◌^◌, ◌≤◌, [], ◌∷◌, codes, drop, false, length, nat_eq, true, option_and_then, option_map, IfOk, IfSome, OnErr};
 ghost use Rattle.std.specs.Char.{is_ascii_digit};
 ghost use Rattle.std.specs.List.{list_all};
 ghost use Rattle.clap.specs.Words.{app_of, fault_of, first_of, found_of, rows_of, shape_of, subcommand_of, subcommand_rows_of, with_subcommand, new_app};
 ghost use Rattle.clap.specs.declared.builder.command.Command.TheViews.{out-Command};
 ghost use Rattle.command_line.specs.CommandLines.{bare_app, files_app, nesthv_app, one_word, reports_app, two_words};
-ghost use Rattle.command_line.specs.Commands.{OnFiles, command_of, asked_by, is_numeral, is_plain, bounded_number, guest_number, if_within, save_of, work_of};
+ghost use Rattle.command_line.specs.Commands.{OnFiles, command_of, asked_by, is_numeral, is_plain, bounded_number, guest_number, if_within, save_of, seed_of, size_of, work_of};
 ghost use Rattle.command_line.specs.CommandLines.{command_by, file_command_by};
 ghost use Rattle.command_line.specs.Seen.{command_seen, file_command_seen, IsRequest};
 
@@ -216,9 +216,25 @@ fn work_request<'a>(seed: &str, size: &str) -> Option<Request<'a>>
     ensures request { option_map command_seen result ≡ work_of seed.now size.now }
     ensures within { IfSome result IsRequest }
 {
-    let seed = number_of(seed, 10, 0, 0x7FFF_FFFF)?;
-    let size = number_of(size, 5, 1, 10_000)?;
+    let seed = seed_of(seed)?;
+    let size = size_of(size)?;
     Some(Request::Work { seed, size })
+}
+
+// The seed that a word says.
+fn seed_of(word: &str) -> Option<u64>
+    ensures seed { result ≡ seed_of word.now }
+    ensures most { IfSome result (λ seed. seed ≤ 2 ^ 31 - 1) }
+{
+    number_of(word, 10, 0, 0x7FFF_FFFF)
+}
+
+// The size that a word says.
+fn size_of(word: &str) -> Option<u64>
+    ensures size { result ≡ size_of word.now }
+    ensures bounds { IfSome result (λ size. (1 ≤ size) × (size ≤ 10000)) }
+{
+    number_of(word, 5, 1, 10_000)
 }
 
 /// The number of a word of 1 to that many digits, where it is within these bounds.
