@@ -46,6 +46,13 @@ fn goes_on(status: Status) -> bool
     }
 }
 
+// The position before one. The start has none before it, and stays.
+fn previous(n: u64) -> u64
+    ensures { result ≡ n - 1 }
+{
+    n.saturating_sub(1)
+}
+
 // The position before the step that a move would make last.
 fn before(way: Move, n: u64) -> u64
     requires { n ≤ 2 ^ 52 }
@@ -53,7 +60,7 @@ fn before(way: Move, n: u64) -> u64
     ensures few { result ≤ 2 ^ 52 }
 {
     match way {
-        Move::Step | Move::Continue => n.saturating_sub(1),
+        Move::Step | Move::Continue => previous(n),
         Move::StepBack | Move::ContinueBack => clamped(LAST, n + 1),
     }
 }
@@ -149,7 +156,7 @@ impl<R: Runner + Drop> Session<R> {
             }
             Move::Continue => self.go_on(alloc, seen),
             Move::StepBack => {
-                let place = self.positions.place().saturating_sub(1);
+                let place = previous(self.positions.place());
                 self.go_to(alloc, place)
             }
             Move::ContinueBack => self.go_back(alloc, seen),

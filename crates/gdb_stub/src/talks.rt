@@ -80,6 +80,16 @@ fn acknowledged(alloc: Global, packet: &[u8]) -> Result<Vec<u8>, NoMemory>
     Ok(said)
 }
 
+// Sends bytes, and reads none.
+#[tactic(auto, using(crate::proofs::Talking::sayings))]
+fn say<C: Connection>(bytes: &[u8], connection: &mut C) -> Result<(), TalkEnd>
+    ensures said { HasSaid C.Connection (is_ok result) bytes.now connection.old connection.new }
+    ensures causes { OnlySends C.Connection result connection.old connection.new }
+{
+    connection.send(bytes)?;
+    Ok(())
+}
+
 // Says that a packet has come, and answers it with a packet.
 #[tactic(auto, using(crate::proofs::Talking::sayings))]
 fn acknowledge<C: Connection>(
@@ -92,8 +102,7 @@ fn acknowledge<C: Connection>(
     ensures causes { OnlySends C.Connection result connection.old connection.new }
 {
     let said = acknowledged(alloc, packet)?;
-    connection.send(said.as_slice())?;
-    Ok(())
+    say(said.as_slice(), connection)
 }
 
 // A piece of what comes, behind what has come; whether there is more.
@@ -187,11 +196,11 @@ impl<R: Runner + Drop> Talk<R> {
         match message {
             Message::Packet(payload) => self.hear_packet(alloc, payload.as_slice(), connection),
             Message::BadSum | Message::BadEscape => {
-                connection.send(WRONG)?;
+                say(WRONG, connection)?;
                 Ok(true)
             }
             Message::Nack => {
-                connection.send(self.sent.as_slice())?;
+                say(self.sent.as_slice(), connection)?;
                 Ok(true)
             }
             Message::Ack | Message::Interrupt | Message::Stray => Ok(true),
