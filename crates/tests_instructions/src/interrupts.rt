@@ -44,10 +44,12 @@ fn disable(csrs: &mut Csrs, code: u64) {
     }
 }
 
+static IN_ORDER: [u64; 6] = [9, 1, 5, 10, 2, 6];
+
 // Whether all interrupts, disabled one after the other, are due in the order towards HS, with HS before VS.
 fn are_due_in_order(hideleg: Interrupts, mode: Mode) -> bool {
     let mut csrs = all_pending(hideleg);
-    for code in [9, 1, 5, 10, 2, 6] {
+    for &code in &IN_ORDER {
         if pending(&csrs, mode) != Some(code) {
             return false;
         }

@@ -29,7 +29,7 @@ fn place(part: &Part, offset: u64) -> Option<u64> {
 
 // Offsets in the RAM of blocks 7, 3 and 200, and where they lie: a block is 2,097,152 bytes, 200000 in
 // hexadecimal.
-const PLACES: [(u64, u64); 6] = [
+static PLACES: [(u64, u64); 6] = [
     (0, 0x00E0_0000),
     (0x1F_FFFF, 0x00FF_FFFF),
     (0x20_0000, 0x0060_0000),
@@ -47,7 +47,7 @@ fn a_part_tells_its_frames(rt: HostRuntime) {
     assert!(rt; part.ram_size() == 0x60_0000);
     // Block 200 ends at frame 102,912, which is past the tables.
     assert!(rt; part.lies_in(102_912 * 4096) && !part.lies_in(102_911 * 4096));
-    for (offset, at) in PLACES {
+    for &(offset, at) in &PLACES {
         assert!(rt; place(&part, offset) == Some(at), "{offset:X}");
     }
 }
@@ -76,7 +76,7 @@ fn parts_at_the_edges_of_memory(rt: HostRuntime) {
 
 // 512 for each block, 5 for the host's table, and for each space 4 and 3 for each entry: 512 + 5 + 52,
 // 16,384 + 5 + 52, 16,384 + 5 + 8 * 772 and 512 + 5 + 8 * 52.
-const NEEDS: [(u64, u64, u64, u64); 4] = [
+static NEEDS: [(u64, u64, u64, u64); 4] = [
     (1, 1, 16, 569),
     (32, 1, 16, 16_441),
     (32, 8, 256, 22_565),
@@ -89,7 +89,7 @@ fn has_frames(need: &Need, frames: u64) -> bool {
 
 #[test]
 fn guests_need_frames(rt: HostRuntime) {
-    for (blocks, spaces, entries, frames) in NEEDS {
+    for &(blocks, spaces, entries, frames) in &NEEDS {
         let need = Need {
             blocks,
             spaces,
