@@ -1,6 +1,9 @@
 // What is read of a configuration, and what its faults keep.
 
-use run_config::{ConfigFault, ConfigKey, FreshGuest, GuestSettings, InputSource, Origin, read};
+use run_config::{
+    ConfigFault, ConfigKey, FreshGuest, GuestSettings, InputSource, Origin, ReadEnd, read,
+};
+use std::alloc::Global;
 use std::test::Fail;
 use turn_plan::Turns;
 
@@ -94,6 +97,20 @@ const EACH_VALUE_TWO: &str = "format=2\nquantum=4294967\nrounds=2\n\
     weight=1_000,device=1,input='keys 1.bin'},\
     {name='b',image='b',blocks=2,spaces=3,entries=17,console=5}]";
 
+// The turns that these give: those that are listed, those of weights, and those of rounds.
+static LISTED: [(u32, u64); 3] = [(2, 4_294_967_296), (0, 0), (2, 7)];
+
+static WEIGHTED: [(u32, u64); 4] = [
+    (0, 4_294_967_000),
+    (1, 4_294_967),
+    (0, 4_294_967_000),
+    (1, 4_294_967),
+];
+
+static OF_TWO: [(u32, u64); 4] = [(0, 9), (1, 9), (0, 9), (1, 9)];
+
+static OF_THREE: [(u32, u64); 6] = [(0, 7), (1, 7), (2, 7), (0, 7), (1, 7), (2, 7)];
+
 const ROUNDS: &str = "format=1\nquantum=9\nrounds=2\n\
     guest=[{name='a',image='a',blocks=1,spaces=1,entries=16,console=0},\
     {name='b',image='a',blocks=1,spaces=1,entries=16,console=0}]";
@@ -129,42 +146,54 @@ fn is_from(input: &InputSource, source: &Source) -> bool {
     }
 }
 
+fn are_turns(turns: &Turns, expected: &[(u32, u64)]) -> bool {
+    turns.as_slice() == expected
+}
+
+// Whether the guests have these settings, one by one.
+fn have_settings(guests: &[GuestSettings], expected: &[Settings]) -> bool {
+    for (guest, settings) in guests.iter().zip(expected) {
+        if !are_read(guest, settings) {
+            return false;
+        }
+    }
+    guests.len() == expected.len()
+}
+
+// Whether a text is read as these turns and settings.
+fn is_read_as(
+    alloc: Global,
+    text: &str,
+    turns: &[(u32, u64)],
+    settings: &[Settings],
+) -> Result<bool, ReadEnd> {
+    let config = read(alloc, text.as_bytes())?;
+    Ok(are_turns(config.turns(), turns) && have_settings(config.guests(), settings))
+}
+
 #[test]
 fn each_value(rt: HostRuntime) -> Result<(), Fail> {
-    let config = read(rt.alloc(), EACH_VALUE.as_bytes())?;
-    assert!(rt; config.turns().as_slice() == [(2, 4_294_967_296), (0, 0), (2, 7)].as_slice());
-    assert!(rt; config.guests().len() == 3);
-    for (guest, settings) in config.guests().iter().zip(&SETTINGS) {
-        assert!(rt; are_read(guest, settings));
-    }
+    assert!(rt; is_read_as(rt.alloc(), EACH_VALUE, &LISTED, &SETTINGS)?);
     Ok(())
 }
 
 #[test]
 fn each_value_of_format_2(rt: HostRuntime) -> Result<(), Fail> {
-    let config = read(rt.alloc(), EACH_VALUE_TWO.as_bytes())?;
-    let turns = [
-        (0, 4_294_967_000),
-        (1, 4_294_967),
-        (0, 4_294_967_000),
-        (1, 4_294_967),
-    ];
-    assert!(rt; config.turns().as_slice() == turns.as_slice());
-    assert!(rt; config.guests().len() == 2);
-    for (guest, settings) in config.guests().iter().zip(&SETTINGS_TWO) {
-        assert!(rt; are_read(guest, settings));
-    }
+    assert!(rt; is_read_as(rt.alloc(), EACH_VALUE_TWO, &WEIGHTED, &SETTINGS_TWO)?);
     Ok(())
 }
 
 // Each round has one turn of each guest.
+fn are_rounds_of_two(alloc: Global) -> Result<bool, ReadEnd> {
+    let config = read(alloc, ROUNDS.as_bytes())?;
+    Ok(config.guests().len() == 2 && are_turns(config.turns(), &OF_TWO))
+}
+
 #[test]
 fn rounds(rt: HostRuntime) -> Result<(), Fail> {
-    let config = read(rt.alloc(), ROUNDS.as_bytes())?;
-    assert!(rt; config.guests().len() == 2);
-    assert!(rt; config.turns().as_slice() == [(0, 9), (1, 9), (0, 9), (1, 9)].as_slice());
+    assert!(rt; are_rounds_of_two(rt.alloc())?);
     let turns = Turns::of_rounds(rt.alloc(), 3, 7, 2)?;
-    assert!(rt; turns.as_slice() == [(0, 7), (1, 7), (2, 7), (0, 7), (1, 7), (2, 7)].as_slice());
+    assert!(rt; are_turns(&turns, &OF_THREE));
     Ok(())
 }
 
@@ -240,31 +269,31 @@ static FAULTS: [ConfigFault; 15] = [
     },
 ];
 
-// The same as the calls make them.
-fn made() -> [ConfigFault; 15] {
-    [
-        ConfigFault::not_toml(),
-        ConfigFault::format(),
-        ConfigFault::missing(Some(3), ConfigKey::Entries),
-        ConfigFault::range(None, ConfigKey::Spare, Some(33)),
-        ConfigFault::name(1),
-        ConfigFault::turns(),
-        ConfigFault::input(2),
-        ConfigFault::extra(None),
-        ConfigFault::too_long(),
-        ConfigFault::image_long(0, 2_097_153),
-        ConfigFault::frames(263_056),
-        ConfigFault::input_file(1, 65_536),
-        ConfigFault::weight(15, 8_589_934_592),
-        ConfigFault::saved(4),
-        ConfigFault::no_guest(99),
-    ]
+// The fault of a number, as its call makes it.
+fn made(number: u8) -> ConfigFault {
+    match number {
+        1 => ConfigFault::not_toml(),
+        2 => ConfigFault::format(),
+        3 => ConfigFault::missing(Some(3), ConfigKey::Entries),
+        4 => ConfigFault::range(None, ConfigKey::Spare, Some(33)),
+        5 => ConfigFault::name(1),
+        6 => ConfigFault::turns(),
+        7 => ConfigFault::input(2),
+        8 => ConfigFault::extra(None),
+        9 => ConfigFault::too_long(),
+        10 => ConfigFault::image_long(0, 2_097_153),
+        11 => ConfigFault::frames(263_056),
+        12 => ConfigFault::input_file(1, 65_536),
+        13 => ConfigFault::weight(15, 8_589_934_592),
+        14 => ConfigFault::saved(4),
+        _ => ConfigFault::no_guest(99),
+    }
 }
 
 #[test]
 fn faults_keep_what_they_tell(rt: HostRuntime) {
-    for (made, fault) in made().iter().zip(&FAULTS) {
-        assert!(rt; made == fault, "{}", fault.number);
+    for fault in &FAULTS {
+        assert!(rt; made(fault.number) == *fault, "{}", fault.number);
     }
     assert!(rt; ConfigKey::Entries.text() == "entries");
 }
