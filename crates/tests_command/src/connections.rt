@@ -1,38 +1,66 @@
 // What comes on connections, in pieces and with faults.
 
+use no_memory::NoMemory;
 use outside::{
     Connection, ListConnection, ListSink, ReadMade, ReceiveFault, SinkFault, StdConnection,
 };
+use std::alloc::Global;
 use std::io;
 use std::io::{ErrorKind, Read, Write};
 use std::test::Fail;
 
+// A call on a connection and its answer. A read also says what the room for three bytes has after it.
+enum Call {
+    Receive(Result<usize, ReceiveFault>, &'static [u8]),
+    Send(&'static [u8], Result<(), SinkFault>),
+}
+
+static CALLS: [Call; 8] = [
+    Call::Receive(Ok(2), b"ab\0"),
+    Call::Send(b"xy", Ok(())),
+    Call::Receive(Err(ReceiveFault::Failed), b"ab\0"),
+    Call::Receive(Ok(2), b"cd\0"),
+    Call::Send(b"zw", Err(SinkFault::Failed)),
+    Call::Receive(Ok(1), b"ed\0"),
+    Call::Receive(Ok(0), b"ed\0"),
+    Call::Receive(Err(ReceiveFault::Failed), b"ed\0"),
+];
+
+static MADE: [ReadMade; 4] = [
+    ReadMade { sent: 0, came: 2 },
+    ReadMade { sent: 2, came: 2 },
+    ReadMade { sent: 3, came: 1 },
+    ReadMade { sent: 3, came: 0 },
+];
+
 // Each read gives two bytes at most. The second fails, and there is room for four others.
+fn in_pieces(alloc: Global) -> Result<ListConnection, NoMemory> {
+    let out = ListSink::new(alloc, 3)?;
+    let mut connection = ListConnection::new(alloc, b"abcde", 2, 4, out)?;
+    connection.fail_at(2)?;
+    Ok(connection)
+}
+
+fn has(room: &[u8], bytes: &[u8]) -> bool {
+    room == bytes
+}
+
+fn is_answered(connection: &mut ListConnection, room: &mut [u8; 3], call: &Call) -> bool {
+    match call {
+        Call::Receive(answer, left) => connection.receive(room) == *answer && has(room, left),
+        Call::Send(piece, answer) => connection.send(piece) == *answer,
+    }
+}
+
 #[test]
 fn list_connection_comes_in_pieces(rt: HostRuntime) -> Result<(), Fail> {
-    let out = ListSink::new(rt.alloc(), 3)?;
-    let mut connection = ListConnection::new(rt.alloc(), b"abcde", 2, 4, out)?;
-    connection.fail_at(2)?;
+    let mut connection = in_pieces(rt.alloc())?;
     let mut room = [0; 3];
-    assert!(rt; connection.receive(&mut room) == Ok(2));
-    assert!(rt; room.as_slice() == b"ab\0".as_slice());
-    assert!(rt; connection.send(b"xy") == Ok(()));
-    assert!(rt; connection.receive(&mut room) == Err(ReceiveFault::Failed));
-    assert!(rt; connection.receive(&mut room) == Ok(2));
-    assert!(rt; room.as_slice() == b"cd\0".as_slice());
-    assert!(rt; connection.send(b"zw") == Err(SinkFault::Failed));
-    assert!(rt; connection.receive(&mut room) == Ok(1));
-    assert!(rt; room.as_slice() == b"ed\0".as_slice());
-    assert!(rt; connection.receive(&mut room) == Ok(0));
-    assert!(rt; connection.receive(&mut room) == Err(ReceiveFault::Failed));
+    for (index, call) in CALLS.iter().enumerate() {
+        assert!(rt; is_answered(&mut connection, &mut room, call), "{index}");
+    }
     assert!(rt; connection.out().bytes() == b"xyz".as_slice());
-    let made = [
-        ReadMade { sent: 0, came: 2 },
-        ReadMade { sent: 2, came: 2 },
-        ReadMade { sent: 3, came: 1 },
-        ReadMade { sent: 3, came: 0 },
-    ];
-    assert!(rt; connection.made() == made.as_slice());
+    assert!(rt; connection.made() == MADE.as_slice());
     Ok(())
 }
 

@@ -10,7 +10,7 @@ use std::test::Fail;
 use work_images::{guests, noise};
 
 // The words of the code, by GNU Binutils 2.40: `riscv64-linux-gnu-as -march=rv64ima_zicsr_zifencei_h`.
-const CODE: [u32; 33] = [
+static CODE: [u32; 33] = [
     0x0000_0417,
     0x4004_3283,
     0x6802_9073,
@@ -47,7 +47,7 @@ const CODE: [u32; 33] = [
 ];
 
 // The doublewords below the commands: hgatp, vsatp, the nested guest's code and its table.
-const DOUBLEWORDS: [(usize, u64); 6] = [
+static DOUBLEWORDS: [(usize, u64); 6] = [
     (0x400, 0x8000_1000_0008_0004),
     (0x408, 0),
     (0x1000, 0x0000_0073_0005_C503),
@@ -256,8 +256,8 @@ fn wanted(alloc: Global, command: [u64; 4]) -> Result<Vec<u8>, NoMemory> {
     for (index, word) in CODE.iter().enumerate() {
         lay(&mut bytes, index.wrapping_mul(4), &word.to_le_bytes());
     }
-    for (place, value) in DOUBLEWORDS {
-        lay(&mut bytes, place, &value.to_le_bytes());
+    for (place, value) in &DOUBLEWORDS {
+        lay(&mut bytes, *place, &value.to_le_bytes());
     }
     for (index, letter) in b"ABCDEFGHIJKLMNO".iter().enumerate() {
         let page = index.wrapping_mul(0x1000).wrapping_add(0xA000);

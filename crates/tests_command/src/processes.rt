@@ -41,15 +41,18 @@ fn are_texts(words: &[Word], texts: &[&[u8]]) -> bool {
             .all(|(word, text)| word.as_str().as_bytes() == *text)
 }
 
-// An argument that is not a text is an empty word.
+// Arguments and their words. An argument that is not a text is an empty word.
+static ARGUMENTS: [&'static [u8]; 5] = [b"nesthv", b"", b"\xC3\xA4", b"a\xFFb", &[b'l'; 300]];
+
+static TEXTS: [&'static [u8]; 5] = [b"nesthv", b"", b"\xC3\xA4", b"", &[b'l'; 300]];
+
 #[test]
 fn each_argument_is_a_word(rt: HostRuntime) -> Result<(), Fail> {
-    let long = [b'l'; 300];
     let given = Given {
-        arguments: &[b"nesthv", b"", b"\xC3\xA4", b"a\xFFb", &long],
+        arguments: &ARGUMENTS,
     };
     let words = words_of(&ProcessArguments::new(&given), rt.alloc())?;
-    assert!(rt; are_texts(words.as_slice(), &[b"nesthv", b"", b"\xC3\xA4", b"", &long]));
+    assert!(rt; are_texts(words.as_slice(), &TEXTS));
     Ok(())
 }
 

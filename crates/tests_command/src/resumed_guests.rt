@@ -421,21 +421,16 @@ fn is_read(alloc: Global, text: &str, answer: &Result<&'static [Said], ConfigFau
     }
 }
 
-fn text_of(alloc: Global, case: &Case) -> Result<String, AllocError> {
+fn is_right(alloc: Global, case: &Case) -> Result<bool, AllocError> {
     let mut text = String::from_str(alloc, case.lines)?;
     text.push_str(case.guests)?;
-    Ok(text)
+    Ok(is_read(alloc, text.as_str(), &case.answer))
 }
 
 #[test]
 fn right(rt: HostRuntime) -> Result<(), Fail> {
     for case in &RIGHT {
-        let text = text_of(rt.alloc(), case)?;
-        assert!(rt;
-            is_read(rt.alloc(), text.as_str(), &case.answer),
-            "{}",
-            case.guests
-        );
+        assert!(rt; is_right(rt.alloc(), case)?, "{}", case.guests);
     }
     Ok(())
 }
@@ -443,12 +438,7 @@ fn right(rt: HostRuntime) -> Result<(), Fail> {
 #[test]
 fn wrong(rt: HostRuntime) -> Result<(), Fail> {
     for case in &WRONG {
-        let text = text_of(rt.alloc(), case)?;
-        assert!(rt;
-            is_read(rt.alloc(), text.as_str(), &case.answer),
-            "{}",
-            case.guests
-        );
+        assert!(rt; is_right(rt.alloc(), case)?, "{}", case.guests);
     }
     Ok(())
 }
@@ -482,15 +472,20 @@ fn has_file_of(alloc: Global, text: &str, length: usize) -> bool {
     }
 }
 
+// Whether a name of that length is read, or refused as wrong.
+fn is_length_right(alloc: Global, length: usize, may_be: bool) -> Result<bool, AllocError> {
+    let text = text_of_length(alloc, length)?;
+    if may_be {
+        Ok(has_file_of(alloc, text.as_str(), length))
+    } else {
+        Ok(is_read(alloc, text.as_str(), &WRONG_KIND))
+    }
+}
+
 #[test]
 fn lengths(rt: HostRuntime) -> Result<(), Fail> {
-    for &(length, is_right) in &LENGTHS {
-        let text = text_of_length(rt.alloc(), length)?;
-        if is_right {
-            assert!(rt; has_file_of(rt.alloc(), text.as_str(), length), "{length}");
-        } else {
-            assert!(rt; is_read(rt.alloc(), text.as_str(), &WRONG_KIND), "{length}");
-        }
+    for &(length, may_be) in &LENGTHS {
+        assert!(rt; is_length_right(rt.alloc(), length, may_be)?, "{length}");
     }
     Ok(())
 }

@@ -41,17 +41,25 @@ fn put_three<O: Sink>(
     }
 }
 
+fn fails_at_its_third_put(sink: &mut ListSink) -> bool {
+    put_three(sink, b"abc", b"de", b"fgh") == Err(SinkFault::Failed)
+        && sink.bytes() == b"abcdefg".as_slice()
+        && sink.faults() == 1
+}
+
+fn is_filled(sink: &mut ListSink) -> bool {
+    sink.put(b"hijk") == Err(SinkFault::Failed)
+        && sink.bytes() == b"abcdefghij".as_slice()
+        && sink.put(b"") == Ok(())
+        && sink.faults() == 2
+}
+
 #[test]
 fn list_sink_takes_what_fits(rt: HostRuntime) -> Result<(), Fail> {
     let mut sink = ListSink::new(rt.alloc(), 10)?;
     sink.fail_at(3, 2)?;
-    assert!(rt; put_three(&mut sink, b"abc", b"de", b"fgh") == Err(SinkFault::Failed));
-    assert!(rt; sink.bytes() == b"abcdefg".as_slice());
-    assert!(rt; sink.faults() == 1);
-    assert!(rt; sink.put(b"hijk") == Err(SinkFault::Failed));
-    assert!(rt; sink.bytes() == b"abcdefghij".as_slice());
-    assert!(rt; sink.put(b"") == Ok(()));
-    assert!(rt; sink.faults() == 2);
+    assert!(rt; fails_at_its_third_put(&mut sink));
+    assert!(rt; is_filled(&mut sink));
     Ok(())
 }
 

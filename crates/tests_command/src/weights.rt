@@ -1,6 +1,7 @@
 // The turns that weights give.
 
-use run_config::read;
+use run_config::{ReadEnd, read};
+use std::alloc::Global;
 use std::test::Fail;
 
 // A configuration, and its turns.
@@ -39,11 +40,15 @@ static CASES: [Case; 4] = [
     },
 ];
 
+fn has_turns(alloc: Global, case: &Case) -> Result<bool, ReadEnd> {
+    let config = read(alloc, case.text.as_bytes())?;
+    Ok(config.turns().as_slice() == case.turns)
+}
+
 #[test]
 fn turns(rt: HostRuntime) -> Result<(), Fail> {
     for case in &CASES {
-        let config = read(rt.alloc(), case.text.as_bytes())?;
-        assert!(rt; config.turns().as_slice() == case.turns);
+        assert!(rt; has_turns(rt.alloc(), case)?, "{}", case.text);
     }
     Ok(())
 }
