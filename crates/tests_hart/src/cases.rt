@@ -1,5 +1,5 @@
 // A case: machine memory, a program, and the state in which the hart begins. Those that are rows of text
-// stand in `hart_cases`.
+// stand in `machine_cases`.
 
 ghost use Rattle.std.specs.Prelude.{◌≡◌, ◌⊎◌};
 
