@@ -15,7 +15,7 @@ pub struct Entry {
 /// What an HFENCE.GVMA names: a VMID and a guest physical page (an address divided by 4,096), or all of them
 /// where there is none (Privileged Architecture 20211203, 8.3.2). An SFENCE.VMA or an HFENCE.VVMA names an
 /// ASID, in the place of the VMID, and a virtual page (4.2.1 and 8.3.1).
-#[derive(Clone, Copy, Debug, PartialEq, Eq)]
+#[derive(Clone, Copy, PartialEq, Eq)]
 pub struct Fence {
     pub vmid: Option<u64>,
     pub page: Option<u64>,

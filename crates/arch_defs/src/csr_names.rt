@@ -1,7 +1,7 @@
 // The control and status registers by name, and how an access can be refused.
 
 /// The registers that HS and VS each have a copy of, each in its own `SupervisorCsrs`.
-#[derive(Clone, Copy, PartialEq, Eq)]
+#[derive(Clone, Copy)]
 pub enum SupervisorCsr {
     Status,
     Tvec,
@@ -13,7 +13,7 @@ pub enum SupervisorCsr {
 }
 
 /// The registers of interrupts.
-#[derive(Clone, Copy, PartialEq, Eq)]
+#[derive(Clone, Copy)]
 pub enum InterruptCsr {
     Sie,
     Sip,
@@ -26,7 +26,7 @@ pub enum InterruptCsr {
 }
 
 /// The registers of one named bit.
-#[derive(Clone, Copy, PartialEq, Eq)]
+#[derive(Clone, Copy)]
 pub enum EnableCsr {
     Scounteren,
     Senvcfg,
@@ -35,7 +35,7 @@ pub enum EnableCsr {
 }
 
 /// The other registers of the hypervisor extension.
-#[derive(Clone, Copy, PartialEq, Eq)]
+#[derive(Clone, Copy)]
 pub enum HypervisorCsr {
     Hstatus,
     Hedeleg,
@@ -48,7 +48,7 @@ pub enum HypervisorCsr {
 }
 
 /// A control and status register.
-#[derive(Clone, Copy, PartialEq, Eq)]
+#[derive(Clone, Copy)]
 pub enum Register {
     /// sstatus to satp of HS.
     Supervisor(SupervisorCsr),

@@ -1,7 +1,7 @@
 // The levels that take traps, and the codes of their interrupts.
 
 /// Where a trap goes: to HS, or with V = 1 by delegation to VS (Privileged Architecture 20211203, 8.6.2).
-#[derive(Clone, Copy, Debug, PartialEq, Eq)]
+#[derive(Clone, Copy, PartialEq, Eq)]
 pub enum Level {
     HS,
     VS,

@@ -6,7 +6,7 @@ ghost use Rattle.arch_defs.specs.Traps.{exception, faults_of, has_guest_address,
 
 /// The privilege modes with the hypervisor extension, below machine mode: HS and U with V = 0, VS and
 /// VU with V = 1 (Privileged Architecture 20211203, 8.1).
-#[derive(Clone, Copy, Debug, PartialEq, Eq)]
+#[derive(Clone, Copy, PartialEq, Eq)]
 pub enum Mode {
     HS,
     U,
@@ -39,7 +39,7 @@ impl Mode {
 }
 
 /// What an access to memory is for.
-#[derive(Clone, Copy, Debug, PartialEq, Eq)]
+#[derive(Clone, Copy, PartialEq, Eq)]
 pub enum Access {
     Fetch,
     Load,

@@ -10,7 +10,7 @@ use crate::roots::{GuestRoot, SupervisorRoot};
 use std::marker::Model;
 
 /// The number of an x register, 0 to 31.
-#[derive(Clone, Copy, Debug, PartialEq, Eq)]
+#[derive(Clone, Copy, PartialEq, Eq)]
 pub struct Reg {
     number: u8,
 }

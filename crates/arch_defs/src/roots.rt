@@ -7,7 +7,7 @@ ghost use Rattle.arch_defs.specs.Roots.{asid_of, guest_mode_number, guest_mode_o
 use crate::walks::Shape;
 
 /// A MODE of satp and vsatp that names a table (Privileged Architecture 20211203, 4.1.11).
-#[derive(Clone, Copy, Debug, PartialEq, Eq)]
+#[derive(Clone, Copy, PartialEq, Eq)]
 pub enum SupervisorMode {
     Sv39,
     Sv48,
@@ -89,7 +89,7 @@ impl SupervisorRoot {
 }
 
 /// A MODE of hgatp that names a table (Privileged Architecture 20211203, 8.2.10).
-#[derive(Clone, Copy, Debug, PartialEq, Eq)]
+#[derive(Clone, Copy, PartialEq, Eq)]
 pub enum GuestMode {
     Sv39x4,
     Sv48x4,

@@ -16,7 +16,7 @@ use outside::{NoMemory, Word};
 use std::alloc::{AllocError, Global};
 
 /// What a command on files asks for.
-#[derive(Clone, Copy, PartialEq, Eq)]
+#[derive(Clone, Copy)]
 pub enum FileRequest<'a> {
     /// A run of the configuration in this file.
     Run { config: &'a str },
@@ -29,7 +29,7 @@ pub enum FileRequest<'a> {
 }
 
 /// What the words ask for.
-#[derive(Clone, Copy, PartialEq, Eq)]
+#[derive(Clone, Copy)]
 pub enum Request<'a> {
     OnFiles(FileRequest<'a>),
     /// A run of the guests that are generated from a seed and a size.

@@ -22,7 +22,7 @@ const PIECE: usize = 4_096;
 const MOST: usize = 1 << 24;
 
 /// Why a talk has ended before gdb left or its stream ended.
-#[derive(Clone, Copy, PartialEq, Eq)]
+#[derive(Clone, Copy)]
 pub enum TalkEnd {
     ReadFault,
     WriteFault,

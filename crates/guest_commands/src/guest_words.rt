@@ -8,7 +8,7 @@ use command_line::{are_plain, number_of};
 use outside::Word;
 
 /// What words ask for: a guest, by its number, of the configuration in this file.
-#[derive(Clone, Copy, PartialEq, Eq)]
+#[derive(Clone, Copy)]
 pub struct GuestRequest<'a> {
     pub config: &'a str,
     pub guest: u32,

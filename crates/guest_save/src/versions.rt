@@ -4,7 +4,7 @@ ghost use Rattle.std.specs.Prelude.{◌≡◌, take};
 ghost use Rattle.guest_save.specs.Versions.{header_end, later_begin, version_letters, version_in};
 
 /// A version of a form, which its letters tell.
-#[derive(Clone, Copy, Debug, PartialEq, Eq)]
+#[derive(Clone, Copy)]
 pub enum Version {
     /// It does not tell whether a machine has the device page: none has. Nor has one first-stage translations
     /// cached.

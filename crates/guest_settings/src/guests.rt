@@ -7,7 +7,7 @@ use crate::Need;
 use std::marker::Model;
 
 /// A guest's name, as bytes.
-#[derive(Debug, Drop)]
+#[derive(Drop)]
 pub struct Name {
     bytes: Vec<u8>,
 }
@@ -45,7 +45,7 @@ impl Name {
 }
 
 /// An image's bytes.
-#[derive(Debug, Drop)]
+#[derive(Drop)]
 pub struct Bytes {
     items: Vec<u8>,
 }
@@ -83,7 +83,7 @@ impl Bytes {
 }
 
 /// Bytes that come to the guest's console, each with the moment of its clock from which on it is there.
-#[derive(Debug, Drop)]
+#[derive(Drop)]
 pub struct Inputs {
     pairs: Vec<(u64, u8)>,
 }

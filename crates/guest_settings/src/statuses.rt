@@ -1,7 +1,7 @@
 // What a report says of a guest.
 
 /// Whether a machine goes on.
-#[derive(Clone, Copy, Debug, PartialEq, Eq)]
+#[derive(Clone, Copy, PartialEq, Eq)]
 pub enum Status {
     Running,
     /// A WFI for which nothing can come.

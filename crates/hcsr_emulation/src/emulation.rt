@@ -17,7 +17,7 @@ use privileged_ops::{Performed, perform, refusal_code, refusal_of};
 use rv64_asm::encode;
 
 /// How an instruction ended.
-#[derive(Clone, Copy, PartialEq, Eq)]
+#[derive(Clone, Copy)]
 pub enum Emulated {
     /// It was made.
     Done,

@@ -7,7 +7,7 @@ use no_memory::NoMemory;
 use outside::SinkFault;
 
 /// Why a log is not whole.
-#[derive(Clone, Copy, PartialEq, Eq)]
+#[derive(Clone, Copy)]
 pub enum LogEnd {
     WriteFault,
     NoMemory,

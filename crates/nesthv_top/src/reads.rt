@@ -13,7 +13,7 @@ use outside::{Store, StoreFault};
 use std::alloc::Global;
 
 /// How many reads a command has made.
-#[derive(Debug, Drop)]
+#[derive(Drop)]
 pub struct Reads {
     made: u64,
 }

@@ -3,7 +3,7 @@
 use arch_defs::{Fence, Reg, Width};
 
 /// Arithmetic on 64 bits, of RV64I and M.
-#[derive(Clone, Copy, Debug, PartialEq, Eq)]
+#[derive(Clone, Copy)]
 pub enum AluOp {
     Add,
     Sub,
@@ -26,7 +26,7 @@ pub enum AluOp {
 }
 
 /// Arithmetic on the low 32 bits, whose result is sign extended.
-#[derive(Clone, Copy, Debug, PartialEq, Eq)]
+#[derive(Clone, Copy)]
 pub enum WordOp {
     Add,
     Sub,
@@ -41,7 +41,7 @@ pub enum WordOp {
 }
 
 /// What an atomic memory operation makes of the old value and its operand.
-#[derive(Clone, Copy, Debug, PartialEq, Eq)]
+#[derive(Clone, Copy)]
 pub enum AmoOp {
     Swap,
     Add,
@@ -55,7 +55,7 @@ pub enum AmoOp {
 }
 
 /// The test of a conditional branch.
-#[derive(Clone, Copy, PartialEq, Eq)]
+#[derive(Clone, Copy)]
 pub enum Test {
     Eq,
     Ne,
@@ -66,7 +66,7 @@ pub enum Test {
 }
 
 /// What an instruction on a control and status register does to it.
-#[derive(Clone, Copy, Debug, PartialEq, Eq)]
+#[derive(Clone, Copy)]
 pub enum CsrOp {
     Write,
     Set,
@@ -74,7 +74,7 @@ pub enum CsrOp {
 }
 
 /// The operand of such an instruction: a register, or five bits of the word.
-#[derive(Clone, Copy, PartialEq, Eq)]
+#[derive(Clone, Copy)]
 pub enum CsrSource {
     Register(Reg),
     Immediate(u8),
@@ -83,7 +83,7 @@ pub enum CsrSource {
 /// An instruction of RV64IMA, Zicsr, Zifencei, the supervisor and the hypervisor extension. Immediates
 /// and offsets are sign extended to 64 bits; shifts by an immediate have the amount there. aq and rl of
 /// atomic operations, and the fields of FENCE and FENCE.I, change nothing on one hart, and are left out.
-#[derive(Clone, Copy, PartialEq, Eq)]
+#[derive(Clone, Copy)]
 pub enum Op {
     Lui {
         rd: Reg,
@@ -209,7 +209,7 @@ pub enum Op {
 }
 
 /// What an instruction asks for, read off the registers alone. Unless said otherwise pc goes on by 4.
-#[derive(Clone, Copy, PartialEq, Eq)]
+#[derive(Clone, Copy)]
 pub enum Effect {
     /// `rd` becomes `value`, and pc `next`.
     Sets { rd: Reg, value: u64, next: u64 },
@@ -224,7 +224,7 @@ pub enum Effect {
 }
 
 /// The one access to data that an instruction makes: where, how wide, and what for.
-#[derive(Clone, Copy, Debug, PartialEq, Eq)]
+#[derive(Clone, Copy)]
 pub struct DataAccess {
     /// A virtual address.
     pub address: u64,
@@ -233,7 +233,7 @@ pub struct DataAccess {
 }
 
 /// What an access to data is for.
-#[derive(Clone, Copy, Debug, PartialEq, Eq)]
+#[derive(Clone, Copy)]
 pub enum Purpose {
     /// A load, or HLV: `rd` becomes what is loaded, extended by its sign or by zeros.
     Load { signed: bool, rd: Reg },
@@ -252,7 +252,7 @@ pub enum Purpose {
 }
 
 /// What an instruction of opcode SYSTEM asks for, which the mode decides.
-#[derive(Clone, Copy, Debug, PartialEq, Eq)]
+#[derive(Clone, Copy)]
 pub enum Privileged {
     /// `rd` becomes what the register of this number shows, which, if it `writes`, becomes what `op` makes
     /// of that and `operand`.

@@ -3,7 +3,7 @@
 use crate::sinks::{Sink, SinkFault};
 
 /// A sink that takes every piece, keeps none, and never fails.
-#[derive(Clone, Copy, Debug, PartialEq, Eq)]
+#[derive(Clone, Copy)]
 pub struct CleanSink;
 
 impl Sink for CleanSink {

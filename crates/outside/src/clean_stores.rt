@@ -11,7 +11,7 @@ use std::alloc::Global;
 use std::marker::Model;
 
 /// A store in memory that never fails. A name outside it reads as no bytes.
-#[derive(Debug, Drop)]
+#[derive(Drop)]
 pub struct CleanStore {
     files: NamedFiles,
 }

@@ -17,7 +17,7 @@ pub enum ReceiveFault {
 }
 
 /// Bytes that came or were sent at once.
-#[derive(Debug, Drop)]
+#[derive(Drop)]
 pub struct Piece {
     bytes: Vec<u8>,
 }
@@ -31,7 +31,7 @@ impl Model for Piece {
 }
 
 /// What was transferred on a connection: a piece that came, or one that was sent.
-#[derive(Debug, Drop)]
+#[derive(Drop)]
 pub enum Transfer {
     Came(Piece),
     Sent(Piece),

@@ -14,7 +14,7 @@ use std::alloc::Global;
 use std::marker::Model;
 
 /// A read that was made: how many bytes had been sent before it, and how many it gave.
-#[derive(Clone, Copy, Debug, PartialEq, Eq)]
+#[derive(Clone, Copy)]
 pub struct ReadMade {
     pub sent: usize,
     pub came: usize,
@@ -22,7 +22,7 @@ pub struct ReadMade {
 
 /// A connection on which bytes in memory come, in pieces, and whose sink is in memory. It takes its memory
 /// when it is made.
-#[derive(Debug, Drop)]
+#[derive(Drop)]
 pub struct ListConnection {
     coming: Vec<u8>,
     place: usize,

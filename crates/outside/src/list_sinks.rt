@@ -9,7 +9,7 @@ use std::alloc::Global;
 use std::marker::Model;
 
 // A put that is to fail: its number, and how many bytes it still takes.
-#[derive(Clone, Copy, Debug, PartialEq, Eq)]
+#[derive(Clone, Copy)]
 struct Failure {
     call: u64,
     takes: usize,
@@ -26,7 +26,7 @@ impl Model for Failure {
 }
 
 /// A sink that keeps its bytes, in memory that it takes when it is made.
-#[derive(Debug, Drop)]
+#[derive(Drop)]
 pub struct ListSink {
     bytes: Vec<u8>,
     room: usize,

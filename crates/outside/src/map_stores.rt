@@ -11,7 +11,7 @@ use std::alloc::Global;
 use std::marker::Model;
 
 /// A read that a store was asked for.
-#[derive(Debug, Drop)]
+#[derive(Drop)]
 pub struct Asked {
     name: Word,
     most: u64,
@@ -50,7 +50,7 @@ impl Asked {
 }
 
 /// A store in memory. A name outside it is a fault, and it tells the reads asked for.
-#[derive(Debug, Drop)]
+#[derive(Drop)]
 pub struct MapStore {
     files: NamedFiles,
     failing: Vec<u64>,

@@ -13,7 +13,7 @@ use op_defs::{DataAccess, Privileged};
 use trap_delegation::sret;
 
 /// How an instruction ended.
-#[derive(Clone, Copy, PartialEq, Eq)]
+#[derive(Clone, Copy)]
 pub enum Performed {
     /// It was made.
     Done,

@@ -7,7 +7,7 @@ use outside::{Sink, SinkFault};
 use std::marker::Model;
 
 /// Whether bytes are those that were expected.
-#[derive(Clone, Copy, Debug, PartialEq, Eq)]
+#[derive(Clone, Copy, PartialEq, Eq)]
 pub enum Verdict {
     /// All bytes are the same, and there are equally many.
     Same,
@@ -18,7 +18,7 @@ pub enum Verdict {
 
 /// A sink that compares its pieces with expected bytes. It keeps none of the pieces, takes no memory, and
 /// never fails.
-#[derive(Debug, Drop)]
+#[derive(Drop)]
 pub struct Compare<'a> {
     expected: &'a [u8],
     // How many bytes agree, from the first on.

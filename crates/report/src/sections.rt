@@ -11,7 +11,7 @@ use guest_settings::{Name, Status};
 use outside::{Sink, SinkFault};
 
 /// What a section's header names.
-#[derive(Clone, Copy, Debug)]
+#[derive(Clone, Copy)]
 pub struct GuestLine<'a> {
     pub name: &'a Name,
     pub status: Status,

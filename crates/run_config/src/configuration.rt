@@ -9,7 +9,7 @@ use turn_plan::Turns;
 
 /// A configuration that was accepted: the guests in their order, the turns, and how many spare blocks there
 /// are.
-#[derive(Debug, Drop)]
+#[derive(Drop)]
 pub struct Config {
     guests: Vec<GuestSettings>,
     turns: Turns,

@@ -6,7 +6,7 @@ use guest_settings::{Inputs, Name};
 use std::marker::Model;
 
 /// The name of a file, as text.
-#[derive(Debug, Drop)]
+#[derive(Drop)]
 pub struct FileName {
     text: String,
 }
@@ -38,7 +38,7 @@ impl FileName {
 }
 
 /// Where a guest's inputs come from.
-#[derive(Debug, Drop)]
+#[derive(Drop)]
 pub enum InputSource {
     /// These pairs of a moment and a byte.
     Pairs(Inputs),
@@ -47,7 +47,7 @@ pub enum InputSource {
 }
 
 /// What a configuration says of a fresh guest, one that begins at its start.
-#[derive(Debug, Drop)]
+#[derive(Drop)]
 pub struct FreshGuest {
     /// The name of the file that holds its image.
     pub image: FileName,
@@ -66,7 +66,7 @@ pub struct FreshGuest {
 }
 
 /// How a guest begins.
-#[derive(Debug, Drop)]
+#[derive(Drop)]
 pub enum Origin {
     /// At its start, by an image.
     Fresh(FreshGuest),
@@ -75,7 +75,7 @@ pub enum Origin {
 }
 
 /// What a configuration says of a guest.
-#[derive(Debug, Drop)]
+#[derive(Drop)]
 pub struct GuestSettings {
     /// What the report calls it: ASCII letters and digits.
     pub name: Name,

@@ -38,7 +38,7 @@ const LAST_RUN: u64 = 510;
 /// slots, and the frames of all that is or was read for them. `who` is what a tag has above the page's
 /// number. A restart empties no slot: it begins a run with a number that no slot has. The page of the last
 /// fetch was a slot's for fetches, and is forgotten where any of them may be dropped.
-#[derive(Clone, Copy, PartialEq, Eq)]
+#[derive(Clone, Copy)]
 pub struct Buffer {
     pub context: Context,
     pub run: u64,

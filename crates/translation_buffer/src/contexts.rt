@@ -9,7 +9,7 @@ use two_stage_walk::second_root_of;
 
 /// What translations are made under: the roots of both stages, and sstatus.MXR, which counts in the second
 /// stage too.
-#[derive(Clone, Copy, PartialEq, Eq)]
+#[derive(Clone, Copy)]
 pub struct Context {
     pub first: SupervisorRoot,
     pub second: GuestRoot,

@@ -15,7 +15,7 @@ const SEVERAL: u64 = u64::MAX;
 /// A set of frames. At each mark stands the key of the frame that was added there, 0 where none was, and the
 /// last number of 64 bits where more than one was. `recent` has the bits of the frames that were added since
 /// the last `begin`; a frame's bit is that of its number modulo 64.
-#[derive(Clone, Copy, PartialEq, Eq)]
+#[derive(Clone, Copy)]
 pub struct FrameSet {
     held: [u64; 4096],
     recent: u64,

@@ -7,7 +7,7 @@ ghost use Rattle.translation_buffer.specs.Places.{Translator};
 
 /// The page of the last fetch: the address at which it starts, and what is added to an address of it, modulo
 /// 2^64, to get its place. Where there is none it starts at 4, which is the start of no page.
-#[derive(Clone, Copy, PartialEq, Eq)]
+#[derive(Clone, Copy)]
 pub struct Page {
     pub start: u64,
     pub delta: u64,

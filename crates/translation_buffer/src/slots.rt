@@ -14,7 +14,7 @@ use arch_defs::Access;
 /// A kept translation: the tag of a page, what is added to an address of it to get its place, and the bits of
 /// the frames that were read for it. The sum is modulo 2^64. A frame's bit is that of its number modulo 64.
 /// Where none is kept, the tag is 0, which no page has.
-#[derive(Clone, Copy, PartialEq, Eq)]
+#[derive(Clone, Copy)]
 pub struct Slot {
     pub tag: u64,
     pub delta: u64,
@@ -62,7 +62,7 @@ impl Slot {
 
 /// The kept translations of fetches, of loads and of stores, each at the low bits of its page's number. Data
 /// lie in more pages than code does, and the page of the last fetch is kept apart.
-#[derive(Clone, Copy, PartialEq, Eq)]
+#[derive(Clone, Copy)]
 pub struct Slots {
     pub fetches: [Slot; 8],
     pub loads: [Slot; 32],

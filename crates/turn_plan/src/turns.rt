@@ -10,7 +10,7 @@ use std::marker::Model;
 
 /// The turns of a run in order. Each is the number of a guest, from 0 on, and at most how many steps it
 /// makes.
-#[derive(Debug, Drop)]
+#[derive(Drop)]
 pub struct Turns {
     pairs: Vec<(u32, u64)>,
 }

@@ -15,7 +15,7 @@ use arch_defs::{Access, Csrs, DEVICE_FRAME, FRAME_SIZE, Found, MissingPlace, Mod
 use phys_mem::Mem;
 
 /// Where an access is made.
-#[derive(Clone, Copy, PartialEq, Eq)]
+#[derive(Clone, Copy)]
 pub enum Place {
     /// In memory, at this address.
     InMemory(u64),
