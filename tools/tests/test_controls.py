@@ -1,4 +1,4 @@
-"""Tests of tools/controls on a small repository, with an `rt` that refuses code that says `wrong`."""
+"""Tests of tools/controls on a small repository, with an `rt` that goes by words of the code."""
 import os
 import shutil
 import subprocess
@@ -8,9 +8,24 @@ import unittest
 
 from helper import LIMIT, TOOLS
 
+# It tells of each function, but not where the code says `wrong`, `unknown` or `endless`.
 RT = """#!/bin/sh
 echo "$*" >> "$CHECKS"
 if grep -q wrong src/*.rt; then echo "error: a goal is open"; exit 1; fi
+if grep -q unknown src/*.rt; then echo "error[E0425]: there is no such value"; exit 1; fi
+if grep -q endless src/*.rt; then echo "antt ran out of the steps that the check of one declaration may take"; exit 3; fi
+find src -name '*.rt' -exec cat {} + | awk '
+/^ *fn / { name = $2; sub(/[(].*/, "", name) }
+/ refuted / { print "note: src/lib.rt:1:1: it is not proved; the facts known there allow values at which this goal is false" }
+/ unproved / { print "note: src/lib.rt:1:1: it is not proved: `search` gave up" }
+/ refuted | unproved / { print "fn one::" name ": no proof: expected answers in ./proofs/Answers.antt"; failed = 1; next }
+/ resting / { resting = name; next }
+/^ *fn / { print "fn one::" name ": proved" }
+END {
+  if (resting && failed) { print "fn one::" resting ": no proof: it calls `one::sum`, which is not proved" }
+  else if (resting) { print "fn one::" resting ": proved" }
+  exit failed
+}'
 """
 SOURCE = "fn sum() { a + b }\nfn less() { a < b }\nfn both() { a && b }\n"
 METHODS = """const MOST: u64 = 7;
@@ -71,8 +86,8 @@ class ControlsTest(unittest.TestCase):
             file.write(text)
         return path
 
-    def put_edit(self, name):
-        return self.put(f"crates/one/must-fail/{name}.edit", edit(name, "a"))
+    def put_edit(self, name, new="a", folder="must-fail"):
+        return self.put(f"crates/one/{folder}/{name}.edit", edit(name, new))
 
     def put_control(self, name, new=None):
         return self.put(f"crates/one/controls/{name}.control", edit(name, new or NEW[name]))
@@ -161,7 +176,99 @@ class ControlsTest(unittest.TestCase):
 
     def test_control_of_no_edit(self):
         path = self.put("crates/one/controls/third.control", edit("half", NEW["half"]))
-        self.check_said(2, "", f"{path}: there is no third.edit in must-fail")
+        self.check_said(2, "", f"{path}: there is no third.edit")
+
+    def put_edits(self, **bodies):
+        """Edits with their controls, half in must-fail and the others outside the gate."""
+        for name, new in bodies.items():
+            self.put_edit(name, new, "must-fail" if name == "half" else "controls")
+            self.put_control(name)
+
+    def test_edits_that_are_refused(self):
+        self.put_edits(half="{ refuted }", equal="{ unproved }")
+        checks = self.check_said(0, """\
+one/equal: refused (open goal), control proved
+one/half: refused (values), control proved
+2 edits: 2 refused (1 by values, 1 by an open goal, 0 by a limit), 0 PROVED, 0 bad; \
+controls: 2 proved, 0 refused, 0 none
+""", "", "--edits")
+        self.assertEqual(checks, ["check --jobs 1 --only less --only sum"] * 2)
+
+    def test_edit_that_is_proved(self):
+        self.put_edits(half="{ refuted }", equal="{ a }")
+        checks = self.check_said(1, """\
+one/equal: PROVED, control proved
+one/half: refused (values), control proved
+2 edits: 1 refused (1 by values, 0 by an open goal, 0 by a limit), 1 PROVED, 0 bad; \
+controls: 2 proved, 0 refused, 0 none
+""", "", "--edits", "one")
+        self.assertEqual(len(checks), 2)
+
+    def test_edit_of_a_function_that_calls_a_refused_one(self):
+        self.put_edits(half="{ refuted }", equal="{ resting }", either="{ resting }")
+        checks = self.check_said(1, """\
+one/either: PROVED, control proved
+one/equal: PROVED, control proved
+one/half: refused (values), control proved
+3 edits: 1 refused (1 by values, 0 by an open goal, 0 by a limit), 2 PROVED, 0 bad; \
+controls: 3 proved, 0 refused, 0 none
+""", "", "--edits")
+        self.assertEqual(checks[1], "check --jobs 1 --only both --only less")
+
+    def test_edits_without_a_verdict(self):
+        self.put_edits(half="{ refuted }", equal="{ endless }", either="{ unknown }")
+        checks = self.check_said(1, """\
+one/either: bad (error[E0425]: there is no such value), control proved
+one/equal: refused (limit), control proved
+one/half: refused (values), control proved
+3 edits: 2 refused (1 by values, 0 by an open goal, 1 by a limit), 0 PROVED, 1 bad; \
+controls: 3 proved, 0 refused, 0 none
+""", "", "--edits")
+        self.assertEqual(checks[:5], [f"check --jobs 1 --only {functions}" for functions in (
+            "both --only less --only sum", "both", "less --only sum", "less", "sum")])
+
+    def test_edits_of_one_function(self):
+        self.put_edits(half="{ refuted }")
+        self.put("crates/one/controls/zero.edit", edit("half", "{ unproved }"))
+        checks = self.check_said(1, """\
+one/half: refused (values), control proved
+one/zero: refused (open goal), no control
+2 edits: 2 refused (1 by values, 1 by an open goal, 0 by a limit), 0 PROVED, 0 bad; \
+controls: 1 proved, 0 refused, 1 none
+""", "", "--edits")
+        self.assertEqual(checks, ["check --jobs 1 --only sum"] * 3)
+
+    def test_edit_outside_functions_is_tried_alone(self):
+        self.put("crates/one/src/lib.rt", "const A: u64 = 1;\n" + SOURCE)
+        self.put_edits(half="{ refuted }")
+        for folder, kind, new in ("must-fail", "edit", 2), ("controls", "control", "0 + 1"):
+            self.put(f"crates/one/{folder}/const.{kind}", f"file: src/lib.rt\nold: u64 = 1\nnew: u64 = {new}\n")
+        checks = self.check_said(1, """\
+one/const: PROVED, control proved
+one/half: refused (values), control proved
+2 edits: 1 refused (1 by values, 0 by an open goal, 0 by a limit), 1 PROVED, 0 bad; \
+controls: 2 proved, 0 refused, 0 none
+""", "", "--edits")
+        self.assertEqual(checks, ["check --jobs 1 --only sum", "check --jobs 1"] * 2)
+
+    def test_control_of_an_edit_that_is_refused_too(self):
+        self.put_edits(half="{ refuted }", equal="{ refuted }")
+        self.put_control("half", "{ unproved }")
+        self.check_said(1, """\
+one/equal: refused (values), control proved
+one/half: refused (values), control refused: note: src/lib.rt:1:1: it is not proved: `search` gave up
+2 edits: 2 refused (2 by values, 0 by an open goal, 0 by a limit), 0 PROVED, 0 bad; \
+controls: 1 proved, 1 refused, 0 none
+""", "", "--edits")
+
+    def test_edit_in_both_folders(self):
+        self.put_edit("half", "0", "controls")
+        self.check_said(2, "", "crates/one/controls/half.edit: it is in must-fail too", "--edits")
+
+    def test_file_of_an_edit_that_there_is_not(self):
+        self.put("crates/one/must-fail/half.edit", edit("half", "a").replace("lib", "none"))
+        path = os.path.join(self.folder, "crates", "one", "src", "none.rt")
+        self.check_said(2, "", f"{path}: No such file or directory", "--edits")
 
     def test_crate_that_there_is_not(self):
         self.check_said(2, "", "two is not a crate", "two")
