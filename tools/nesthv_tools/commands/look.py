@@ -117,8 +117,7 @@ def split_words(words: list[str]) -> tuple[str, int, str, list[str]]:
     if not rest:
         raise sessions.Bad(f"a command is missing after {config}: it is one of {', '.join(COUNTS)}")
     if rest[0] not in COUNTS:
-        meant = command_line.meant(rest[0], COUNTS)
-        raise sessions.Bad(f"{rest[0]} is not a command{meant}: {', '.join(COUNTS)} are")
+        raise sessions.Bad(f"{rest[0]} is not a command: {', '.join(COUNTS)} are")
     command, rest = rest[0], rest[1:]
     if len(rest) not in COUNTS[command]:
         raise sessions.Bad(f"`{command}` takes {counted(COUNTS[command])}")
