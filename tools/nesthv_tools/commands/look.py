@@ -441,7 +441,7 @@ def main() -> int:
         with image_configurations.opened(config, options) as given:
             names = faults.image_names(faults.parsed(faults.text_of(given.path))[0])
             image_configurations.refuse_elf_images(os.path.dirname(given.path), names)
-            session = sessions.Session(options, program, given.path, guest)
+            session = sessions.Session(options, program, given.path, guest, given.made_of)
             session.runs.goes_back = command not in OF_ONE_STATE
             return COMMANDS[command](session, words)
     except (sessions.Bad, guest_runs.Unusable, programs.Unusable, image_configurations.Wrong) as why:
