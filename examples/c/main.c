@@ -1,11 +1,10 @@
-/* Prints the primes below 100, and how many there are. */
-#include <stdbool.h>
+/* Prints the CRC-32 of a text. Its exit code is 0 if that is the check value that is known of it, else 1. */
 #include <stdint.h>
 
-#define BOUND 100
+#define POLYNOMIAL 0xEDB88320u /* of IEEE 802.3, with the lowest bit first */
+#define CHECK 0xCBF43926u      /* the CRC-32 of the text, by which programs of CRCs are compared */
 
-static bool is_composite[BOUND];
-static int found = 0;
+static const char text[] = "123456789";
 
 /* Call 1 puts a byte on the console. It answers 0, or -1 where the console is full. */
 static long put(char byte)
@@ -16,32 +15,35 @@ static long put(char byte)
     return a0;
 }
 
-static void put_text(const char *text)
+static void put_text(const char *letters)
 {
-    while (*text != '\0')
-        put(*text++);
+    while (*letters != '\0')
+        put(*letters++);
 }
 
-static void put_number(uint64_t number)
+static void put_hexadecimal(uint32_t number)
 {
-    if (number >= 10)
-        put_number(number / 10);
-    put((char)('0' + number % 10));
+    for (int shift = 28; shift >= 0; shift -= 4)
+        put("0123456789abcdef"[number >> shift & 15]);
+}
+
+static uint32_t crc_of(const char *bytes)
+{
+    uint32_t crc = 0xFFFFFFFF;
+    for (; *bytes != '\0'; bytes++) {
+        crc ^= (uint8_t)*bytes;
+        for (int bit = 0; bit < 8; bit++)
+            crc = (crc & 1) != 0 ? crc >> 1 ^ POLYNOMIAL : crc >> 1;
+    }
+    return ~crc;
 }
 
 int main(void)
 {
-    for (int n = 2; n < BOUND; n++) {
-        if (is_composite[n])
-            continue;
-        found++;
-        put_number((uint64_t)n);
-        put(' ');
-        for (int multiple = n * n; multiple < BOUND; multiple += n)
-            is_composite[multiple] = true;
-    }
-    put_text("are ");
-    put_number((uint64_t)found);
-    put_text(" primes");
-    return 0;
+    uint32_t crc = crc_of(text);
+    put_text("CRC-32 of \"");
+    put_text(text);
+    put_text("\" is ");
+    put_hexadecimal(crc);
+    return crc == CHECK ? 0 : 1;
 }

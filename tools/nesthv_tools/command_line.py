@@ -1,8 +1,7 @@
 """Reads the words of a tool."""
 import argparse
-import difflib
 import sys
-from collections.abc import Callable, Iterable
+from collections.abc import Callable
 from typing import IO, Any
 
 from nesthv_tools import places, streams
@@ -50,12 +49,6 @@ class Parser(argparse.ArgumentParser):
         if not options.words and not getattr(options, alone, False):
             self.error("the following arguments are required: WORD")
         return options
-
-
-def meant(word: str, known: Iterable[str]) -> str:
-    """What a word may be meant as, in words, or nothing."""
-    found = difflib.get_close_matches(word, list(known), 1)
-    return f" (did you mean `{found[0]}`?)" if found else ""
 
 
 def number(least: int, most: int) -> Callable[[str], int]:

@@ -20,11 +20,21 @@ class World(NamedTuple):
     end: int
 
 
+    def overlaps(self, other: "World") -> bool:
+        """Whether both take an address."""
+        return self.start < other.end and other.start < self.end
+
+
 class Worlds(NamedTuple):
     """The ELF file of the guest itself, or none, and those of guests of its own, which its image has in
     it."""
     own: World | None
     nested: list[World]
+
+    def shared(self) -> World | None:
+        """The first file of a guest of its own that takes addresses of the guest itself, or none."""
+        own = self.own
+        return next((each for each in self.nested if own and each.overlaps(own)), None)
 
 
 def world_at(path: str) -> World | None:
@@ -51,27 +61,39 @@ def is_within(path: str, image: bytes) -> bool:
     return len(data) >= SHORTEST and data != image[:len(data)] and data in image
 
 
-def worlds_beside(path: str) -> Worlds:
-    """The ELF files that stand beside the image, or the saved guest, at this path."""
-    beside = [os.path.splitext(path)[0] + ".elf", path + ".elf"]
-    own = next((each for each in beside if os.path.isfile(each) and not os.path.samefile(each, path)), None)
+def worlds_beside(path: str, made_of: str | None = None) -> Worlds:
+    """The ELF files that stand beside the image, or the saved guest, at this path; or beside the file of which the
+    image was made, which may be one itself."""
+    given = made_of or path
+    beside = [each for each in (given, os.path.splitext(given)[0] + ".elf", given + ".elf")
+              if os.path.isfile(each) and not os.path.samefile(each, path)]
+    own = next(filter(None, map(world_at, beside)), None)
     with open(path, "rb") as file:
         image = file.read()
-    found = sorted(glob.glob(os.path.join(glob.escape(os.path.dirname(path)), "*.elf")))
-    nested = [each for each in found if each != own and is_within(each, image)]
-    return Worlds(world_at(own) if own else None, [each for each in map(world_at, nested) if each])
+    found = sorted(glob.glob(os.path.join(glob.escape(os.path.dirname(given)), "*.elf")))
+    nested = [each for each in found if not (own and each == own.path) and is_within(each, image)]
+    return Worlds(own, [each for each in map(world_at, nested) if each])
+
+
+def known_as(world: World) -> str:
+    """The path by which gdb knows a file that it has, as `remove-symbol-file` wants it."""
+    return os.path.realpath(world.path)
 
 
 def symbol_commands(worlds: Worlds) -> list[str]:
-    """What gdb is told of symbols: the guest's own, and those of its guests that have other addresses. `hs`
-    and `vs` of the script take the one or the other alone."""
+    """What gdb is told of symbols: the guest's own, and those of its guests that have other addresses. Where one
+    has the same, the script takes those of the world that is shown; `hs` and `vs` take the one or the other alone."""
     commands, taken = [], [worlds.own] if worlds.own else []
+    shared = worlds.shared()
     if worlds.own:
-        commands += [f"file {shlex.quote(worlds.own.path)}", f'set $nesthv_hs = "{worlds.own.path}"']
+        kind = "exec-file" if shared else "file"
+        commands += [f"{kind} {shlex.quote(worlds.own.path)}", f'set $nesthv_hs = "{known_as(worlds.own)}"']
     if worlds.nested:
-        commands.append(f'set $nesthv_vs = "{worlds.nested[0].path}"')
+        commands.append(f'set $nesthv_vs = "{known_as(shared or worlds.nested[0])}"')
+    if shared:
+        commands += ["set $nesthv_both = 1", "set breakpoint pending on"]
     for world in worlds.nested:
-        if all(world.end <= other.start or other.end <= world.start for other in taken):
+        if not any(world.overlaps(other) for other in taken):
             commands.append(f"add-symbol-file {shlex.quote(world.path)}")
             taken.append(world)
     return commands

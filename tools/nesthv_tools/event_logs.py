@@ -33,13 +33,13 @@ FORMS = {
     "fill": f"(?:first|second) hgatp {OPTIONAL} atp {OPTIONAL} page {PAGE} {LEAF}",
     "stale": f"(?P<stage>first|second) hgatp {OPTIONAL} atp {OPTIONAL} page (?P<page>{PAGE}) "
              f"(?P<cached>{LEAF}) now (?P<now>nothing|{LEAF}) since (?P<since>before|{DECIMAL})",
-    "step": "[-0-9a-z ]++"}
+    "step": "[-0-9a-z ]+"}
 COUNT = f"count {MODE} {PC} hgatp (?P<hgatp>{OPTIONAL}) times (?P<times>{DECIMAL})\n"
 LINES = {kind: re.compile(f"{kind} (?P<step>{DECIMAL}) {MODE} {PC} {form}\n".encode())
          for kind, form in FORMS.items()}
 LINES["count"] = re.compile(COUNT.encode())
 # Lines of steps of one mode, of which there may be very many.
-STEPS = re.compile("|".join(f"(?:step [0-9]++ {mode} [0-9a-f]{{16}} [-0-9a-z ]++\n)++"
+STEPS = re.compile("|".join(f"(?:step [0-9]+ {mode} [0-9a-f]{{16}} [-0-9a-z ]+\n)+"
                             for mode in MODES).encode())
 
 

@@ -1,12 +1,11 @@
 """Says in words what the program's line of a status means: which key, which range, which line of the file."""
-import difflib
 import os
 import re
 import stat
 import tomllib
 from typing import Any
 
-from nesthv_tools import command_line, records, saves, toml11
+from nesthv_tools import records, saves, toml11
 
 Table = dict[str, Any]
 
@@ -113,18 +112,6 @@ def file_names(document: Table | None) -> list[str]:
     return [name for _, name in guest_files(document) if name]
 
 
-def meant(word: str, known: list[str], known_in_2: list[str]) -> str:
-    """What a key that its format does not have may be meant as, by the keys of the format and those of format
-    2."""
-    return " (a key of `format = 2`)" if word in known_in_2 else command_line.meant(word, known)
-
-
-def misspelt(key: str, table: Table, known: list[str]) -> str:
-    """The key of a table that may be meant as this one, which it lacks, in words, or nothing."""
-    found = difflib.get_close_matches(key, [name for name in table if name not in known], 1)
-    return f" (did you misspell it as `{found[0]}`?)" if found else ""
-
-
 def too_long(table: Table, who: str, path: str) -> str:
     """Why the image at this path does not fit, as far as its file says."""
     has, most = table["blocks"] * BLOCK, MOST_BLOCKS * BLOCK
@@ -196,13 +183,10 @@ def turns_wrong(document: Table, count: int) -> str:
     if turns is not None and pair:
         return f"there are both `turns` and `{pair[0]}`: leave one of the two forms out"
     if turns is None and not pair:
-        near = next(filter(None, (misspelt(key, document, FILE_KEYS[2])
-                                  for key in ("quantum", "rounds", "turns"))), "")
-        return "there are no turns: add `quantum` and `rounds`, or `turns`, before the first `[[guest]]`" \
-            + near
+        return "there are no turns: add `quantum` and `rounds`, or `turns`, before the first `[[guest]]`"
     if len(pair) == 1:
         other = "rounds" if pair[0] == "quantum" else "quantum"
-        return f"`{pair[0]}` is there and `{other}` is not{misspelt(other, document, FILE_KEYS[2])}"
+        return f"`{pair[0]}` is there and `{other}` is not"
     if turns is None:
         if not is_integer(document["quantum"], 0, 2**32):
             return "`quantum` is an integer from 0 to 4,294,967,296"
@@ -297,26 +281,24 @@ class Guest:
             return FILE_KEYS[self.form]
         return RESUMED_KEYS if is_resumed(self.document, self.table) else GUEST_KEYS[self.form]
 
-    def meant(self, name: str) -> str:
-        """What an extra key may be meant as, in words, or nothing."""
+    def owner(self, name: str) -> str:
+        """What has a key that the guest, or without one the file, may not have, in words, or nothing."""
         if self.number is not None and self.keys() is RESUMED_KEYS and name in GUEST_KEYS[2]:
             return " (the file that `resume` names tells it)"
         of_format_2 = FILE_KEYS[2] if self.number is None else [*GUEST_KEYS[2], *RESUMED_KEYS]
-        return meant(name, self.keys(), of_format_2)
+        return " (a key of `format = 2`)" if name in of_format_2 else ""
 
     def lacks(self, key: str) -> str:
-        """That the guest has no such key, and which it may be."""
-        near = misspelt(key, self.table, GUEST_KEYS[self.form])
-        if key == "image" and self.form == 2:
-            near = near or misspelt("resume", self.table, GUEST_KEYS[2])
-            near += "; a guest that goes on from a file has `resume` in its place"
-        return f"{self.who} lacks `{key}`: {RANGES[key]}{near}"
+        """That the guest has no such key, and what its value would be."""
+        is_choice = key == "image" and self.form == 2
+        other = "; a guest that goes on from a file has `resume` in its place" if is_choice else ""
+        return f"{self.who} lacks `{key}`: {RANGES[key]}{other}"
 
     def extra_keys(self) -> str:
         """Which keys the guest, or without one the file, has and should not."""
         is_file = self.number is None
         there, known = self.document if is_file else self.table, self.keys()
-        extra = ", ".join(f"`{name}`{self.meant(name)}" for name in there if name not in known)
+        extra = ", ".join(f"`{name}`{self.owner(name)}" for name in there if name not in known)
         is_misplaced = not is_file and set(there) & set(FILE_KEYS[2])
         moved = "; keys of the file stand before the first `[[guest]]`" if is_misplaced else ""
         who = "the file" if is_file else self.who
@@ -340,10 +322,10 @@ def file_value_wrong(document: Table, key: str, value: int | None) -> str:
     return f"`{key}` is {shown}: it must be {FILE_RANGES[key]}"
 
 
-def file_lacks(key: str, document: Table) -> str:
+def file_lacks(key: str) -> str:
     said = {"format": "the file lacks `format = 1` or `format = 2`",
             "guest": "the file has no guest: write `[[guest]]` once for each, and its keys below"}
-    return said[key] + misspelt(key, document, FILE_KEYS[2])
+    return said[key]
 
 
 def is_binary(text: bytes | None) -> bool:
@@ -367,9 +349,9 @@ def of_configuration(folder: str, text: bytes | None, number: int, guest: int | 
         case 1:
             return no_toml(text, why)
         case 2:
-            return "`format` must be 1 or 2" if "format" in document else file_lacks("format", document)
+            return "`format` must be 1 or 2" if "format" in document else file_lacks("format")
         case 3 if key == "guest":
-            return file_lacks("guest", document)
+            return file_lacks("guest")
         case 3:
             return named.lacks(key)
         case 4 if key == "guest":

@@ -21,9 +21,11 @@ class Wrong(Exception):
 
 
 class Given(NamedTuple):
-    """A configuration: its path, and how a user names it to another tool."""
+    """A configuration: its path, how a user names it to another tool, and the ELF file or image of which it was
+    made, or none."""
     path: str
     shown: str
+    made_of: str | None = None
 
 
 def add_options(parser: argparse.ArgumentParser) -> None:
@@ -169,7 +171,7 @@ def opened(path: str, options: argparse.Namespace, is_second: bool = False) -> I
     shown = " ".join([path, *(each for each in given if not each.startswith("--write"))])
     with contextlib.ExitStack() as stack:
         folder = options.write or stack.enter_context(endings.Folder("nesthv-"))
-        yield Given(written(files_of(path, options), folder), shown)
+        yield Given(written(files_of(path, options), folder), shown, path)
 
 
 def refuse_elf_images(folder: str, names: list[str | None], unless: str = "") -> None:

@@ -25,13 +25,14 @@ def number_of(text: str, what: str) -> int:
 class Session:
     """A guest that is looked at, and how it is shown."""
 
-    def __init__(self, options: Namespace, program: programs.Program, config: str, guest: int) -> None:
+    def __init__(self, options: Namespace, program: programs.Program, config: str, guest: int,
+                 made_of: str | None = None) -> None:
         self.options, self.program = options, program
         self.guest = guest_runs.Guest(program.path, config, guest)
         key = f"{programs.hash_of(program.path)[:16]}-{self.guest.hash()}"
         cache = state_cache.Cache(options.cache, options.cache_size * state_cache.MIB, key)
         self.runs, self.told = guest_runs.Runs(program.path, self.guest, cache), time.monotonic()
-        self.symbols = symbols_of(self.guest.image, options.elf)
+        self.symbols = symbols_of(self.guest.image, made_of, options.elf)
         self.disassembler = symbols.Disassembler()
         self.doing: Callable[[int, int], str] = \
             lambda low, high: f"{self.runs.calls} runs made, now between step {low:,} and {high:,}"
@@ -84,9 +85,10 @@ class Session:
         return f"{saved.numbers['steps']} {saved.mode()} {shown}"
 
 
-def symbols_of(image: str | None, names: list[str]) -> world_symbols.Symbols:
-    """The symbols of a guest that begins with an image, or goes on from a file, and of more ELF files."""
-    worlds = debuggers.worlds_beside(image) if image else debuggers.Worlds(None, [])
+def symbols_of(image: str | None, made_of: str | None, names: list[str]) -> world_symbols.Symbols:
+    """The symbols of a guest that begins with an image, which may be made of another file, or goes on from a file,
+    and of more ELF files."""
+    worlds = debuggers.worlds_beside(image, made_of) if image else debuggers.Worlds(None, [])
     own = code_places.code_at(worlds.own.path) if worlds.own else None
     nested = [code_places.code_at(each.path) for each in worlds.nested]
     return world_symbols.Symbols(own, filter(None, nested), [code_of(name) for name in names])

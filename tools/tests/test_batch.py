@@ -64,7 +64,7 @@ class BatchTest(ToolTest):
         lines = self.lines_of(self.batch(), 1)
         self.assertEqual([line for line in lines if line[0] != "#"], [
             "PASS a.toml", "FAIL b.toml status 2", "FAIL c.toml status 3", "FAIL d.toml status 3"])
-        for words in ("# nesthv: configuration fault 8 guest 0", "did you mean `console`?",
+        for words in ("# nesthv: configuration fault 8 guest 0", "has `consle`, and its keys are name, image",
                       "none.bin of guest 0 cannot be read: there is no such file",
                       "d.report cannot be read: it is a folder"):
             self.assertTrue(any(words in line for line in lines), (words, lines))

@@ -40,14 +40,16 @@ class ConfigurationTest(ToolTest):
     def test_device(self):
         self.check_unsaid(self.refused("is not a regular file", image='"/dev/zero"'), "is enough")
 
-    def test_misspelt_keys(self):
-        self.refused("`consle` (did you mean `console`?)", consle=1)
-        self.refused("lacks `entries`: an integer from 16 to 256 (did you misspell it as `entires`?)", entries=None,
-                     entires=16)
-        self.refused("(did you misspell it as `quantun`?)", front="format = 1\nquantun = 1\nrounds = 1\n")
-        self.refused("the file lacks `format = 1` or `format = 2` (did you misspell it as `formta`?)",
+    def test_unknown_keys(self):
+        """The keys that there are, and no guess at the one that was meant."""
+        ran = self.refused("has `consle`, and its keys are name, image, blocks, spaces, entries, console, input",
+                           consle=1)
+        self.check_unsaid(ran, "mean")
+        ran = self.refused("lacks `entries`: an integer from 16 to 256", entries=None, entires=16)
+        self.check_unsaid(ran, "entires")
+        self.refused("`rounds` is there and `quantum` is not", front="format = 1\nquantun = 1\nrounds = 1\n")
+        self.refused("the file lacks `format = 1` or `format = 2`",
                      front="formta = 1\nquantum = 1\nrounds = 1\n")
-        self.check_unsaid(self.refused("`zzz`", zzz=1), "did you mean")
 
 
 class EntryTest(ToolTest):

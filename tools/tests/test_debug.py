@@ -13,6 +13,48 @@ MEMORY = ("GLIBC_TUNABLES=${GLIBC_TUNABLES-glibc.malloc.mmap_threshold=107374182
           ":glibc.malloc.trim_threshold=1073741824}")
 FAKE = '#!/bin/sh\nfor word; do printf "%s\\n" "$word"; done\nexit 3\n'
 NESTED = bytes(range(1, 101))
+# A guest in VS, and its hypervisor, which has it at its own addresses, by a table of Sv39x4.
+GUEST = """
+    .globl _start
+_start:
+    j       guest_work
+    .org    0x100
+guest_work:
+    ecall
+    j       guest_work
+"""
+HYPERVISOR = """
+    .globl _start
+_start:
+    la      t0, trap
+    csrw    stvec, t0
+    li      t0, 0x8000000000080004
+    csrw    hgatp, t0
+    li      t0, 0x80            # hstatus.SPV
+    csrs    hstatus, t0
+    li      t0, 0x100           # sstatus.SPP
+    csrs    sstatus, t0
+    li      t0, 0x80000000
+    csrw    sepc, t0
+    sret
+    .org    0x80
+trap:
+    j       own_work
+    .org    0x200
+own_work:
+    csrr    t0, sepc
+    addi    t0, t0, 4
+    csrw    sepc, t0
+    sret
+    .org    0x4010
+    .dword  0x20002001          # of 80000000 on: the table at 80008000
+    .org    0x8000
+    .dword  0x20002401          # the table at 80009000
+    .org    0x9000
+    .dword  0x200040df          # a page of U at 80010000
+    .org    0x10000
+    .incbin "guest.bin"
+"""
 
 
 class DebugTest(ToolTest):
@@ -49,12 +91,26 @@ class DebugTest(ToolTest):
         self.put("same.elf", elf((RAM, NESTED)))
         self.put("other.elf", elf((0x1000, bytes(100))))
         ran = self.debug(self.configure())
-        self.assertIn(f"file {self.folder}/a.elf", ran.words)
-        self.assertIn(f'set $nesthv_vs = "{self.folder}/low.elf"', ran.words)
+        self.assertIn(f"exec-file {self.folder}/a.elf", ran.words)
+        self.assertIn(f'set $nesthv_vs = "{self.folder}/same.elf"', ran.words)
+        self.assertIn("set $nesthv_both = 1", ran.words)
         self.assertEqual([word for word in ran.words if word.startswith("add-")],
                          [f"add-symbol-file {self.folder}/low.elf"])
-        self.check_said(ran, f"symbols of a guest of its own: {self.folder}/same.elf")
+        self.check_said(ran, f"symbols of a guest of its own: {self.folder}/same.elf, while gdb stops in VS or VU")
         self.check_unsaid(ran, "other.elf")
+
+    def test_other_addresses(self):
+        """gdb takes both files for good where no address is in both. Of two guests at the same addresses it takes
+        the first, and the other is named with what takes it."""
+        self.put("a.bin", LETTER + NESTED)
+        self.put("a.elf", elf((RAM, LETTER + NESTED)))
+        self.put("low.elf", elf((0x1000, NESTED), entry=0x1000))
+        self.put("more.elf", elf((0x1000, NESTED[1:]), entry=0x1000))
+        ran = self.debug(self.configure())
+        self.assertIn(f"file {self.folder}/a.elf", ran.words)
+        self.assertIn(f'set $nesthv_vs = "{self.folder}/low.elf"', ran.words)
+        self.assertNotIn("set $nesthv_both = 1", ran.words)
+        self.check_said(ran, f"symbols of a guest of its own: {self.folder}/more.elf: `vs {self.folder}/more.elf` takes")
 
     def test_faults_in_words(self):
         path = self.configure()
@@ -76,9 +132,49 @@ class DebugTest(ToolTest):
         self.put("k.elf", elf())
         ran = self.debug("k.elf", "--steps", "7", "--write", "kept")
         self.check_plain(ran, 3)
-        self.assertIn("file kept/k.elf", ran.words)
+        self.assertIn("file k.elf", ran.words)
         stub = f"cd kept && {MEMORY} {STUB} ./k.toml 0; exec cat >/dev/null"
         self.assertIn(f"target remote | {stub}", ran.words)
+
+    def test_guests_beside_an_elf_file(self):
+        """An ELF file in place of a configuration has guests of its own beside it, as an image has; whatever its own
+        name is."""
+        self.put("here/hv", elf((RAM, LETTER + NESTED)))
+        self.put("here/hv.bin", LETTER + NESTED)
+        self.put("here/low.elf", elf((0x1000, NESTED), entry=0x1000))
+        for given, own in (("here/hv", True), ("here/hv.bin", False)):
+            ran = self.debug(given)
+            self.assertEqual("file here/hv" in ran.words, own)
+            self.assertIn("add-symbol-file here/low.elf", ran.words)
+
+    def build_worlds(self):
+        for name, text in (("guest", GUEST), ("hv", HYPERVISOR)):
+            self.put(f"{name}.s", text)
+            self.check_plain(self.tool("examples/build", f"{name}.s"), 0)
+
+    @unittest.skipUnless(shutil.which("riscv64-linux-gnu-gcc"), "riscv64-linux-gnu-gcc is not installed")
+    def test_look_at_both_worlds(self):
+        """An ELF file in place of a configuration is looked at with the symbols of both worlds."""
+        self.build_worlds()
+        ran = self.tool("tools/look", "hv.elf", "trace", "0", "24", "--steps", "24", "--cache", self.folder)
+        self.check_plain(ran, 0)
+        for name in ("guest_work", "own_work"):
+            self.assertIn(name.encode(), ran.stdout)
+
+    @unittest.skipUnless(shutil.which("gdb-multiarch"), "gdb-multiarch is not installed")
+    @unittest.skipUnless(shutil.which("riscv64-linux-gnu-gcc"), "riscv64-linux-gnu-gcc is not installed")
+    def test_symbols_by_world(self):
+        """A hypervisor and its guest with code at the same addresses: gdb names a state by the file of its world, and
+        stops at a breakpoint of either."""
+        self.build_worlds()
+        commands = ["break guest_work", "continue", "print $priv", "info symbol $pc", "break own_work", "continue",
+                    "print $priv", "info symbol $pc", "reverse-continue", "info symbol $pc"]
+        words = [word for each in commands for word in ("-ex", each)]
+        ran = self.tool("tools/debug", "hv.elf", "--steps", "200", "--", "-nx", "-batch", *words)
+        self.check_plain(ran, 0)
+        shown = [line.split(" in section ")[0] for line in ran.stdout.decode().splitlines()
+                 if line.startswith("$") or " in section " in line]
+        self.assertEqual(shown, ["$1 = 5", "guest_work", "$2 = 1", "own_work", "guest_work"])
 
     @unittest.skipUnless(shutil.which("gdb-multiarch"), "gdb-multiarch is not installed")
     def test_gdb(self):

@@ -71,7 +71,7 @@ class FormatTest(ToolTest):
         self.check_said(ran, "nesthv: configuration fault 13 guest 0 value 8589934592")
         self.check_said(ran, "`weight` of guest 0 ('a') is 2 and `quantum` is 4294967296")
         self.said(2, "`weight` of guest 0 ('a') is 0: it must be an integer from 1 to 1,000", weight=0)
-        self.said(2, "(did you mean `weight`?)", wieght=2)
+        self.said(2, "has `wieght`, and its keys are name, image", wieght=2)
 
     def check_explained(self, line, words, head, **keys):
         """Checks what is said of a line of the program, for one guest below these lines of a file."""
@@ -85,7 +85,7 @@ class FormatTest(ToolTest):
                 ("format = 2\nspare = -1\n", "4 key spare value -1", "`spare` is -1: " + range_),
                 ('format = 2\nspare = "1"\n', "4 key spare", "`spare` is '1': " + range_),
                 ("format = 1\nspare = 1\n", "8", "the file has `spare` (a key of `format = 2`)"),
-                ("format = 2\nspair = 1\n", "8", "the file has `spair` (did you mean `spare`?)"),
+                ("format = 2\nspair = 1\n", "8", "the file has `spair`, and its keys are format"),
                 ("format = 2\nspare = 32\n", "11 value 131073", "the guests and the spare blocks need 131073"),
                 ("format = 2\nspare = 32\n", "11 value 131073", "By guest: 0: 569; `spare = 32`: 16384"),
                 ("format = 2\n", "11 value 131073", "the guests need 131073 frames")):
@@ -102,7 +102,7 @@ class FormatTest(ToolTest):
                 (two, {"device": -1}, "4 guest 0 key device value -1", "is -1" + range_),
                 (two, {"device": "true"}, "4 guest 0 key device", "is true" + range_),
                 (two, {"device": '"1"'}, "4 guest 0 key device", "is '1'" + range_),
-                (two, {"devise": 1}, "8 guest 0", "`devise` (did you mean `device`?)"),
+                (two, {"devise": 1}, "8 guest 0", "has `devise`, and its keys are name, image"),
                 (two, {"device": 1}, "8 guest 0", "each key of guest 0 ('a') is one that it may have"),
                 (two, resumed | {"device": 0}, "8 guest 0", "`device` (the file that `resume` names tells"),
                 (two + "device = 1\n", {}, "8", "the file has `device`, and its keys are"),

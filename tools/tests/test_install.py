@@ -229,8 +229,9 @@ class PackageTest(ToolTest):
         can_change_root = BUSYBOX and os.geteuid() == 0
         root = self.root() if can_change_root else self.folder
         os.makedirs(f"{root}/opt", exist_ok=True)
+        form = {"filter": "tar"} if hasattr(tarfile, "tar_filter") else {}  # Python 3.11.2 has no filters
         with tarfile.open(self.tar[0]) as tar:
-            tar.extractall(f"{root}/opt", filter="tar")
+            tar.extractall(f"{root}/opt", **form)
         self.check_unpacked(f"{root}/opt/{name}")
         if can_change_root:
             self.check_run(root, f"/opt/{name}", f"/opt/{name}/{FIRST}")

@@ -489,7 +489,7 @@ class FakeTest(LookTest):
     def test_bad_words(self):
         path = self.trapping()
         for words, said in (([path], "a command is missing after"), ([path, "to", "5"], "to is not a command"),
-                            ([path, "tarce", "5", "6"], "tarce is not a command (did you mean `trace`?)"),
+                            ([path, "tarce", "5", "6"], "tarce is not a command: at, "),
                             ([path, "at"], "`at` takes 1 word"), ([path, "at", "-"], "- is not a step: give a decimal number"),
                             ([path, "1", "at", "0"], "there is no guest 1"),
                             (["none", "at", "0"], "no such file"),

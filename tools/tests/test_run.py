@@ -79,11 +79,11 @@ class RunTest(ToolTest):
         self.check_plain(ran, 2)
         self.check_said(ran, "nothing: there is no such file, nor such an example")
 
-    def test_meant_words(self):
+    def test_unknown_words(self):
         """What is wrong has its true cause."""
         path = self.configure()
-        for words, said in ((["chek", path], "chek is not a command (did you mean `check`?)"),
-                            (["kernl"], "nor such an example (did you mean `kernel`?)"),
+        for words, said in ((["chek", path], "chek is not a command: run, replay, check, save are"),
+                            (["kernl"], "nor such an example: c, device, "),
                             (["save", path, "x"], "x is not the number of a guest: give a decimal number")):
             ran = self.tool("tools/run", *words)
             self.check_plain(ran, 2)

@@ -94,6 +94,19 @@ def make(work, begun, output, lines):
         os._exit(status)
 
 
+def runs_in(session):
+    """Whether a process of this session runs, or waits for a disk."""
+    for name in filter(str.isdecimal, os.listdir("/proc")):
+        try:
+            with open(f"/proc/{name}/stat", encoding="ascii", errors="replace") as file:
+                state, _, _, its = file.read().rpartition(")")[2].split()[:4]
+        except (FileNotFoundError, ProcessLookupError):  # it has ended
+            continue
+        if int(its) == session and state in "RSD":
+            return True
+    return False
+
+
 class SignalTest(ToolTest):
     def setUp(self):
         super().setUp()
@@ -124,7 +137,7 @@ class SignalTest(ToolTest):
     def check_no_program(self, session):
         """Checks that no process of this session is left; one that was killed may need a moment."""
         end = time.monotonic() + LIMIT
-        while subprocess.run(["pgrep", "-s", str(session), "-r", "R,S,D"], stdout=subprocess.PIPE).stdout:
+        while runs_in(session):
             self.assertLess(time.monotonic(), end)
             time.sleep(0.01)
 

@@ -4,8 +4,8 @@ beside the image, and starts it with nesthv-gdb. An ELF file or an image may sta
 configuration.
 
 The ELF file of the guest itself has the image's name. Others in its folder are those of the guest's own
-guests where the image has their bytes in it. Where they lie at the same addresses as the guest, the commands
-`hs` and `vs` of gdb take the symbols of the one or of the other.
+guests where the image has their bytes in it. Where one lies at the same addresses as the guest, gdb takes the
+symbols of the world in which it stops; its commands `hs` and `vs` take those of the one or of the other.
 """
 import os
 import shlex
@@ -78,28 +78,37 @@ def checked(stub: str, path: str, folder: str, place: str, guest: int) -> int:
     return ran.returncode
 
 
-def worlds_of(path: str, folder: str, guest: int) -> debuggers.Worlds:
-    """The ELF files with symbols of a guest."""
+def worlds_of(path: str, folder: str, guest: int, made_of: str | None = None) -> debuggers.Worlds:
+    """The ELF files with symbols of a guest, whose image may be made of another file."""
     document, table = table_of(path, guest)
     name = faults.file_name(table.get("resume" if faults.is_resumed(document, table) else "image"))
     image = os.path.join(folder, name) if name else ""
     if not os.path.isfile(image):
         return debuggers.Worlds(None, [])
-    return debuggers.worlds_beside(os.path.normpath(image))
+    return debuggers.worlds_beside(os.path.normpath(image), made_of)
 
 
 def tell_of_worlds(worlds: debuggers.Worlds) -> None:
     """Says which symbols there are."""
     if worlds.own:
         streams.say(f"symbols of the guest: {worlds.own.path}")
+    shared, taken = worlds.shared(), [worlds.own] if worlds.own else []
     for world in worlds.nested:
-        streams.say(f"symbols of a guest of its own: {world.path}")
+        how = ""
+        if world is shared:
+            how = ", while gdb stops in VS or VU"
+        elif any(world.overlaps(other) for other in taken):
+            how = f": `vs {debuggers.known_as(world)}` takes them"
+        else:
+            taken.append(world)
+        streams.say(f"symbols of a guest of its own: {world.path}{how}")
     if not worlds.own and not worlds.nested:
         streams.say("no ELF file stands beside the image: there are no symbols")
 
 
-def debug(options: Namespace, path: str, stub: str) -> int:
-    """Starts gdb for the configuration at this path, or prints how."""
+def debug(options: Namespace, given: image_configurations.Given, stub: str) -> int:
+    """Starts gdb for a configuration, or prints how."""
+    path = given.path
     folder = run.folder_of(path)
     place = path if folder == "." else os.path.join(".", os.path.basename(path))
     if not os.path.isfile(path):
@@ -109,7 +118,7 @@ def debug(options: Namespace, path: str, stub: str) -> int:
         return status
     document, _ = table_of(path, options.guest)
     image_configurations.refuse_elf_images(folder, faults.image_names(document))
-    worlds = worlds_of(path, folder, options.guest)
+    worlds = worlds_of(path, folder, options.guest, given.made_of)
     words = debuggers.command(options.gdb, stub, folder, place, options.guest, worlds) + options.more
     if options.is_printed:
         print(shlex.join(words))
@@ -140,7 +149,7 @@ def main() -> int:
         if path is None:
             raise Refused(f"{options.config} is not a file, and not an example")
         with image_configurations.opened(path, options) as given:
-            return debug(options, given.path, stub)
+            return debug(options, given, stub)
     except (Refused, image_configurations.Wrong) as why:
         streams.say(str(why))
         return UNUSABLE

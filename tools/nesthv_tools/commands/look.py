@@ -117,8 +117,7 @@ def split_words(words: list[str]) -> tuple[str, int, str, list[str]]:
     if not rest:
         raise sessions.Bad(f"a command is missing after {config}: it is one of {', '.join(COUNTS)}")
     if rest[0] not in COUNTS:
-        meant = command_line.meant(rest[0], COUNTS)
-        raise sessions.Bad(f"{rest[0]} is not a command{meant}: {', '.join(COUNTS)} are")
+        raise sessions.Bad(f"{rest[0]} is not a command: {', '.join(COUNTS)} are")
     command, rest = rest[0], rest[1:]
     if len(rest) not in COUNTS[command]:
         raise sessions.Bad(f"`{command}` takes {counted(COUNTS[command])}")
@@ -442,7 +441,7 @@ def main() -> int:
         with image_configurations.opened(config, options) as given:
             names = faults.image_names(faults.parsed(faults.text_of(given.path))[0])
             image_configurations.refuse_elf_images(os.path.dirname(given.path), names)
-            session = sessions.Session(options, program, given.path, guest)
+            session = sessions.Session(options, program, given.path, guest, given.made_of)
             session.runs.goes_back = command not in OF_ONE_STATE
             return COMMANDS[command](session, words)
     except (sessions.Bad, guest_runs.Unusable, programs.Unusable, image_configurations.Wrong) as why:

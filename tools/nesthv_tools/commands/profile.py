@@ -18,7 +18,7 @@ from collections.abc import Iterator
 from typing import BinaryIO, NamedTuple
 
 from nesthv_tools import (
-    code_places, command_line, debuggers, elf_images, event_logs, faults, image_configurations, profiles,
+    code_places, command_line, debuggers, event_logs, faults, image_configurations, profiles,
     programs, streams, timeline_drawing, tracers)
 from nesthv_tools.code_places import Code
 from nesthv_tools.commands import debug, run
@@ -140,17 +140,6 @@ def code_of(path: str) -> Code:
     return code
 
 
-def worlds_of(options: Namespace, path: str, folder: str) -> debuggers.Worlds:
-    """The ELF files beside the image of a configuration, which may be made for an ELF file."""
-    with open(options.config, "rb") as file:
-        is_elf = file.read(4) == elf_images.MAGIC
-    if not is_elf:
-        return debug.worlds_of(path, folder, options.guest)
-    beside = debuggers.worlds_beside(options.config).nested
-    nested = [each for each in beside if not os.path.samefile(each.path, options.config)]
-    return debuggers.Worlds(debuggers.world_at(options.config), nested)
-
-
 def files_of(options: Namespace, worlds: debuggers.Worlds) -> Files:
     """The ELF files of each world: those that are named, else those beside the image."""
     own = [code_of(path) for path in options.hs]
@@ -198,11 +187,12 @@ def run_of(options: Namespace, path: str) -> contextlib.AbstractContextManager[B
     return tracers.log_of(program, guest, words)
 
 
-def show(options: Namespace, path: str | None, shown: str) -> int:
-    """Shows the run of the configuration at this path, which a user names like this; or the log that is
-    named."""
-    worlds = worlds_of(options, path, run.folder_of(path)) if path else debuggers.Worlds(None, [])
-    command = f"nesthv-trace {shown} {options.guest}" if path else options.log
+def show(options: Namespace, given: image_configurations.Given | None) -> int:
+    """Shows the run of a configuration, or the log that is named."""
+    path = given.path if given else None
+    worlds = debug.worlds_of(given.path, run.folder_of(given.path), options.guest, given.made_of) if given else \
+        debuggers.Worlds(None, [])
+    command = f"nesthv-trace {given.shown} {options.guest}" if given else options.log
     about = profiles.Run(name_of(options, path), command, files_of(options, worlds))
     with contextlib.ExitStack() as stack:
         with log_at(options.log) if options.log else run_of(options, path or "") as file:
@@ -217,7 +207,7 @@ def main() -> int:
     options = options_of_words()
     try:
         if not options.config:
-            return show(options, None, "")
+            return show(options, None)
         path = run.configuration_of(options.config)
         if path is None:
             raise profiles.Refused(f"{options.config} is not a file, and not an example")
@@ -225,7 +215,7 @@ def main() -> int:
         if not os.path.isfile(path):
             raise profiles.Refused(f"the configuration {path} cannot be read{faults.unreadable(path)}")
         with image_configurations.opened(path, options) as given:
-            return show(options, given.path, given.shown)
+            return show(options, given)
     except (profiles.Refused, tracers.Refused, event_logs.Wrong, code_places.Failed,
             image_configurations.Wrong) as why:
         streams.say(str(why))

@@ -84,8 +84,7 @@ def options_of_words() -> Namespace:
     if options.version:
         return options
     if len(words) > 1 and words[0] not in COMMANDS and not os.path.exists(words[0]):
-        meant = command_line.meant(words[0], COMMANDS)
-        parser.error(f"{words[0]} is not a command{meant}: {', '.join(COMMANDS)} are")
+        parser.error(f"{words[0]} is not a command: {', '.join(COMMANDS)} are")
     options.command = words.pop(0) if words[0] in COMMANDS else "run"
     if len(words) != COMMANDS[options.command]:
         parser.error(f"`{options.command}` takes {TAKES.get(options.command, 'CONFIG alone')}")
@@ -132,8 +131,8 @@ def why_no_configuration(name: str) -> str:
     if os.path.isfile(maker):
         return f"{name} has no image here: {os.path.relpath(maker)} builds it, in a folder of yours"
     names = example_names()
-    meant = command_line.meant(name, [*COMMANDS, *names])
-    return f"{name}: there is no such file{', nor such an example' * bool(names)}{meant}"
+    examples = f", nor such an example: {', '.join(names)} are" if names else ""
+    return f"{name}: there is no such file{examples}"
 
 
 def folder_of(path: str) -> str:
