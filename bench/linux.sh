@@ -32,11 +32,11 @@ nesthv() {
 }
 
 translated() {
-    tools/qemu-run --plain --seconds 3600 "$folder/$1"
+    tools/qemu-run --plain --seconds 600 "$folder/$1"
 }
 
 single() {
-    tools/qemu-run --plain --single --seconds 3600 "$folder/$1"
+    tools/qemu-run --plain --single --seconds 600 "$folder/$1"
 }
 
 # processed MACHINE CONFIG: `taken` is the least of the milliseconds that `runs` runs take of the processor
@@ -59,6 +59,7 @@ best() {
     steps=${steps:-$(awk 'NR == 1 { print $5 }' "$folder/output")}
     if [ "$(grep -ac 'stopped after calls' "$folder/output")" -ne 2 ]; then
         echo "$2: the boot does not come to its end: $(tail -n 1 "$folder/output" | tr -d '\r')"
+        cat "$folder/errors" >&2
         exit 1
     fi
     awk -v name="$2" -v steps="$steps" -v ms="$taken" -v empty="$empty" \

@@ -98,9 +98,18 @@ class QemuVersionTest(ToolTest):
             self.check_said(ran, "standard output: ")
 
     def test_words_of_versions(self):
-        for version, words in (((7, 2), ""), ((8, 1), ",Zfa=false"), ((8, 2), ",zfa=false"),
-                               ((10, 0), ",zfa=false")):
-            self.assertEqual(qemu.cpu_words(version), "rv64,h=true,c=false,d=false,f=false" + words)
+        """What QEMU knows is named off, by its own name; Svade, where it is known, is on."""
+        for known, words in (((), "c=false,d=false,f=false"), (("c", "f", "h", "sstc"), "c=false,f=false,sstc=false"),
+                             (("Zfa", "Zawrs"), "Zfa=false,Zawrs=false"), (("zfa", "Zfa"), "zfa=false"),
+                             (("svadu", "svade"), "svadu=false,svade=true")):
+            self.assertEqual(qemu.cpu_words(known), "rv64,h=true," + words)
+
+    def test_guest_that_prints_for_ever(self):
+        """It is ended in time, and what it has printed is told."""
+        ran = self.tool("tools/qemu-run", "--cpu", "endless", "--seconds", "0.2", self.configure(console=3),
+                        variables=self.QEMU)
+        self.check_plain(ran, 10)
+        self.check_said(ran, "not stopped after 0.2 seconds, and its console of 3 bytes is full")
 
     def test_version_10(self):
         ran = self.tool("tools/qemu-run", self.configure(), variables=self.QEMU)

@@ -121,7 +121,7 @@ def escaped(path: str) -> str:
 
 def command_of(image: str, shim: str, options: Namespace) -> list[str]:
     version = qemu.version()
-    command = [qemu.QEMU, *MACHINE, "-serial", "stdio", "-cpu", options.cpu or qemu.cpu_words(version),
+    command = [qemu.QEMU, *MACHINE, "-serial", "stdio", "-cpu", options.cpu or qemu.cpu_words(qemu.properties()),
                "-device", f"loader,file={escaped(image)},addr=0x80000000,force-raw=on",
                "-device", f"loader,file={escaped(shim)},addr=0x88000000,force-raw=on,cpu-num=0"]
     if not options.plain:
@@ -140,12 +140,14 @@ class Copy(threading.Thread):
     def __init__(self, process: subprocess.Popen[bytes], output: terminal.Output) -> None:
         super().__init__(daemon=True)
         self.process, self.output = process, output
+        self.count = 0
         self.error: OSError | None = None
 
     def run(self) -> None:
         assert self.process.stdout
         try:
             while data := os.read(self.process.stdout.fileno(), 65536):
+                self.count += len(data)
                 streams.write(self.output.of(data))
             streams.write(self.output.of(b"", is_last=True))
         except OSError as error:
@@ -153,22 +155,24 @@ class Copy(threading.Thread):
             self.process.kill()
 
 
-def status_of(command: list[str], options: Namespace) -> int | None:
-    """QEMU's status, or none where it was not ended in time."""
+def ran(command: list[str], options: Namespace) -> tuple[int | None, int]:
+    """QEMU's status, or none where it did not end in time, and how many bytes it has printed."""
     process = children.begin(command, stdin=subprocess.DEVNULL, stdout=subprocess.PIPE)
     copy = Copy(process, terminal.Output(options.raw))
     copy.start()
     try:
         process.wait(None if options.gdb else options.seconds)
     except subprocess.TimeoutExpired:
-        return None
+        is_late = True
+    else:
+        is_late = False
     finally:
         process.kill()
         process.wait()
         copy.join()
     if copy.error:
         raise copy.error
-    return process.returncode
+    return None if is_late else process.returncode, copy.count
 
 
 def options_of_words() -> Namespace:
@@ -211,9 +215,11 @@ def main() -> int:
             file.write(data)
             file.flush()
         begin = time.perf_counter_ns()
-        status = status_of(command_of(image.name, shim.name, options), options)
+        status, printed = ran(command_of(image.name, shim.name, options), options)
     if status is None:
-        say(f"not stopped after {options.seconds:g} seconds")
+        is_full = printed >= guest.console
+        say(f"not stopped after {options.seconds:g} seconds"
+            + (f", and its console of {guest.console} bytes is full" if is_full else ""))
         return LATE
     if options.time:
         os.write(2, f"ns {time.perf_counter_ns() - begin}\n".encode())
