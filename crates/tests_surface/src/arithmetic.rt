@@ -105,12 +105,15 @@ fn atomic_operations(rt: HostRuntime) {
 fn words_are_decoded(rt: HostRuntime) {
     let none: Option<Op> = decode(0u32);
     assert!(rt; none.is_none());
-    let Some(Op::AluImmediate {
-        op: AluOp::Add,
-        rd,
-        rs1,
-        immediate: 65,
-    }) = decode(0x0410_0513u32) else {
+    let Some(
+        Op::AluImmediate {
+            op: AluOp::Add,
+            rd,
+            rs1,
+            immediate: 65,
+        },
+    ) = decode(0x0410_0513u32)
+    else {
         assert!(rt; false);
         return;
     };
