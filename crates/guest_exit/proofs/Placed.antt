@@ -16,7 +16,6 @@ use Rattle.arch_defs.specs.Memory.{block_size, ram_base, zeros}
 use Rattle.arch_defs.specs.Ram.{ram_of}
 use Rattle.arch_defs.proofs.FrameSets.{apart_sym, kept, left_within, only_more}
 use Rattle.host_tables.specs.Walks.{IsHeld}
-use Rattle.host_tables.proofs.Held.{held_by_blocks}
 use Rattle.instruction_laws.specs.HostPlaces.{in_ram}
 use Rattle.machine_defs.specs.Machine.{Machine}
 use Rattle.instruction_laws.specs.Renaming.{ReservesWithin}
@@ -174,25 +173,3 @@ placed_built guest memory size once held new only reserved flat storable =
     placed_new guest memory once held new
     (untouched (pool_frames guest.pool) size memory
     (kept (pool_frames guest.pool) (host_frames guest.part) (zeros size) memory (apart_sym (host_frames guest.part) (pool_frames guest.pool) apart) only)) reserved flat storable
-
--- and after any change of its blocks
-pub placed_by_blocks : (guest : Guest) (memory changed : List ℕ) → IsPlaced guest memory → Only (in_blocks guest.part.blocks) memory changed → IsPlaced guest changed
-placed_by_blocks guest memory changed at only =
-    let part = guest.part in
-    let held = held_by_blocks part memory changed at.once at.held only in
-    let same : length (ram_of part.blocks memory) ≡ length (ram_of part.blocks changed) = size_of part memory at.held ∙ sym (size_of part changed held) in
-    record {
-      once = at.once;
-      held = held;
-      ram = refl;
-      reserved = at.reserved;
-      own = at.own;
-      tidy = tidy_by_blocks part guest.pool memory changed at.once at.own at.tidy only;
-      spaces = refl;
-      space_room = refl;
-      entry_room = refl;
-      caches = subst (λ size. All (λ (s : Space). All (HasPlace size) s.entries) (spaces_of guest.pool)) same at.caches;
-      devices = at.devices;
-      orderly = record { entries = at.orderly.entries; spaces = at.orderly.spaces; front = at.orderly.front };
-      storable = at.storable;
-    }

@@ -8,7 +8,6 @@ use no_memory::NoMemory;
 use op_defs::{AluOp, Op, Test};
 use rv64_asm::{AsmFault, Image, encode, fits};
 use std::alloc::Global;
-use std::test::Fail;
 
 // ADDI x0, x0, 0.
 fn nothing() -> Op {
@@ -87,12 +86,11 @@ fn end_of(image: Image) -> Result<usize, AsmFault> {
 
 // JAL to a label that was never set.
 #[test]
-fn a_label_is_missing(rt: HostRuntime) -> Result<(), Fail> {
+fn a_label_is_missing(rt: HostRuntime) {
     let mut image: Image = Image::new(rt.alloc());
-    image.push_to(jal(), 7u32)?;
+    image.push_to(jal(), 7u32).expect(&rt, "memory");
     let end = end_of(image);
     assert!(rt; end.err().map(told) == Some((0, 7)));
-    Ok(())
 }
 
 // BEQ over that number of instructions.
@@ -107,20 +105,18 @@ fn end_over(alloc: Global, count: u32) -> Result<Result<usize, AsmFault>, NoMemo
 }
 
 #[test]
-fn a_branch_is_too_far(rt: HostRuntime) -> Result<(), Fail> {
-    let far = end_over(rt.alloc(), 1023)?;
+fn a_branch_is_too_far(rt: HostRuntime) {
+    let far = end_over(rt.alloc(), 1023).expect(&rt, "memory");
     assert!(rt; far.err().map(told) == Some((4096, 0)));
-    let near = end_over(rt.alloc(), 1022)?;
+    let near = end_over(rt.alloc(), 1022).expect(&rt, "memory");
     assert!(rt; near.ok() == Some(4092));
-    Ok(())
 }
 
 #[test]
-fn placed_bytes_stand_over_instructions(rt: HostRuntime) -> Result<(), Fail> {
+fn placed_bytes_stand_over_instructions(rt: HostRuntime) {
     let mut image = Image::new(rt.alloc());
-    place(&mut image, 0, &[1, 2, 3, 4, 5])?;
-    push(&mut image, nothing())?;
-    let bytes = image.finish()?;
+    place(&mut image, 0, &[1, 2, 3, 4, 5]).expect(&rt, "memory");
+    push(&mut image, nothing()).expect(&rt, "memory");
+    let bytes = image.finish().expect(&rt, "memory");
     assert!(rt; bytes.as_slice() == [1, 2, 3, 4, 5].as_slice());
-    Ok(())
 }

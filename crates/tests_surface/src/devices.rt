@@ -6,7 +6,6 @@ use device_page::access;
 use no_memory::NoMemory;
 use see_calls::{CallEnd, call};
 use std::alloc::Global;
-use std::test::Fail;
 use virtual_timer::{Clock, WaitEnd};
 
 #[test]
@@ -59,8 +58,8 @@ fn console(alloc: Global) -> Result<Console, NoMemory> {
 }
 
 #[test]
-fn a_console_is_put_to(rt: HostRuntime) -> Result<(), Fail> {
-    let mut console: Console = console(rt.alloc())?;
+fn a_console_is_put_to(rt: HostRuntime) {
+    let mut console: Console = console(rt.alloc()).expect(&rt, "memory");
     let first: bool = console.put(65u8);
     assert!(rt; first);
     let full: bool = console.is_full();
@@ -68,12 +67,11 @@ fn a_console_is_put_to(rt: HostRuntime) -> Result<(), Fail> {
     assert!(rt; !console.put(66));
     let bytes: &[u8] = console.bytes();
     assert!(rt; bytes == b"A".as_slice());
-    Ok(())
 }
 
 #[test]
-fn a_console_is_got_from(rt: HostRuntime) -> Result<(), Fail> {
-    let mut console = console(rt.alloc())?;
+fn a_console_is_got_from(rt: HostRuntime) {
+    let mut console = console(rt.alloc()).expect(&rt, "memory");
     let next: Option<u64> = console.next();
     assert!(rt; next == Some(5));
     let unread: &[(u64, u8)] = console.unread();
@@ -82,16 +80,20 @@ fn a_console_is_got_from(rt: HostRuntime) -> Result<(), Fail> {
     assert!(rt; early == None);
     assert!(rt; console.get(5) == Some(7));
     assert!(rt; console.next() == None);
-    Ok(())
 }
 
 #[test]
-fn a_console_that_goes_on(rt: HostRuntime) -> Result<(), Fail> {
+fn a_console_that_goes_on(rt: HostRuntime) {
     let alloc = rt.alloc();
-    let console: Console = Console::resume(alloc, 2u64, b"A", vec![in alloc; (5u64, 7u8)]?)?;
+    let console: Console = Console::resume(
+        alloc,
+        2u64,
+        b"A",
+        vec![in alloc; (5u64, 7u8)].expect(&rt, "memory"),
+    )
+    .expect(&rt, "memory");
     assert!(rt; console.bytes() == b"A".as_slice());
     assert!(rt; console.unread() == [(5, 7)].as_slice());
-    Ok(())
 }
 
 fn has_stopped(end: CallEnd) -> bool {
@@ -102,8 +104,8 @@ fn has_stopped(end: CallEnd) -> bool {
 }
 
 #[test]
-fn calls(rt: HostRuntime) -> Result<(), Fail> {
-    let mut console = console(rt.alloc())?;
+fn calls(rt: HostRuntime) {
+    let mut console = console(rt.alloc()).expect(&rt, "memory");
     let mut clock = Clock::new();
     let mut regs = Regs::starting_at(0);
     regs.x[17] = 1;
@@ -112,18 +114,16 @@ fn calls(rt: HostRuntime) -> Result<(), Fail> {
     assert!(rt; console.bytes() == b"A".as_slice());
     regs.x[17] = 8;
     assert!(rt; has_stopped(call(&mut regs, &mut clock, &mut console)));
-    Ok(())
 }
 
 // A byte stored at 0, the status, the input, and a load that the page does not serve.
 #[test]
-fn the_device_page(rt: HostRuntime) -> Result<(), Fail> {
-    let mut console = console(rt.alloc())?;
+fn the_device_page(rt: HostRuntime) {
+    let mut console = console(rt.alloc()).expect(&rt, "memory");
     let status: Option<u64> = access(8u64, 8u8, None, &mut console, 5u64);
     assert!(rt; status == Some(3));
     assert!(rt; access(0, 1, Some(65u64), &mut console, 5) == Some(0));
     assert!(rt; console.bytes() == b"A".as_slice());
     assert!(rt; access(0, 1, None, &mut console, 5) == Some(7));
     assert!(rt; access(0, 2, None, &mut console, 5) == None);
-    Ok(())
 }

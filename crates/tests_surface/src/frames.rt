@@ -3,14 +3,13 @@
 ghost use Rattle.std.specs.Prelude.{◌≡◌, true};
 ghost use Rattle.frame_split.specs.Shares.{AreNeeds};
 
+use crate::machines::{memory, part};
 use arch_defs::Part;
 use frame_split::{Need, PlanFault, Split, plan};
 use guest_loader::{fits, load};
 use host_tables::{build, frame_of};
 use phys_mem::PhysMem;
 use std::alloc::Global;
-use std::test::Fail;
-use test_memory::{memory, part};
 
 const SMALL: Need = Need {
     blocks: 1,
@@ -45,7 +44,13 @@ fn planned(alloc: Global, needs: &[Need]) -> Option<Result<u64, PlanFault>> {
     }
     let split: Result<Split, PlanFault> = plan(alloc, needs, 0u64);
     match split {
-        Ok(Split { parts, frames, .. }) => {
+        Ok(
+            Split {
+                parts,
+                blocks: _blocks,
+                frames,
+            },
+        ) => {
             let parts: Vec<Part> = parts;
             if parts.len() == needs.len() {
                 Some(Ok(frames))
@@ -108,9 +113,8 @@ fn set_up(memory: &mut PhysMem, part: &Part, image: &[u8]) -> Option<(u64, u64)>
 }
 
 #[test]
-fn a_table_and_an_image(rt: HostRuntime) -> Result<(), Fail> {
-    let mut memory = memory(rt.alloc(), 1024)?;
+fn a_table_and_an_image(rt: HostRuntime) {
+    let mut memory = memory(rt.alloc(), 1024).expect(&rt, "memory");
     let part = part(&[0], 512, 516, 0, 0);
     assert!(rt; set_up(&mut memory, &part, &[7]) == Some((0x8_1001, 7)));
-    Ok(())
 }

@@ -11,6 +11,8 @@ mod devices;
 #[cfg(test)]
 mod frames;
 #[cfg(test)]
+mod machines;
+#[cfg(test)]
 mod memory;
 #[cfg(test)]
 mod pools;
@@ -24,3 +26,5 @@ mod traps;
 mod types;
 #[cfg(test)]
 mod walks;
+#[cfg(test)]
+mod words;

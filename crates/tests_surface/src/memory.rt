@@ -1,10 +1,9 @@
 // Machine memory, and a guest's RAM in it.
 
+use crate::machines::{memory, part};
 use arch_defs::Part;
 use no_memory::NoMemory;
 use phys_mem::{Mem, PhysMem, Ram};
-use std::test::Fail;
-use test_memory::{memory, part};
 
 // Doublewords at 8, below and above them: the bytes of the number, the lowest first.
 fn numbers(memory: &mut PhysMem) -> Option<(u64, u64)> {
@@ -17,11 +16,10 @@ fn numbers(memory: &mut PhysMem) -> Option<(u64, u64)> {
 }
 
 #[test]
-fn machine_memory(rt: HostRuntime) -> Result<(), Fail> {
+fn machine_memory(rt: HostRuntime) {
     let made: Result<PhysMem, NoMemory> = PhysMem::new(rt.alloc(), 3u64);
-    let mut memory: PhysMem = made?;
+    let mut memory: PhysMem = made.expect(&rt, "memory");
     assert!(rt; numbers(&mut memory) == Some((0x8877_6655_4433_2211, 0x4433)));
-    Ok(())
 }
 
 // The first byte of frame 2.
@@ -50,13 +48,12 @@ fn zero(memory: &mut PhysMem) {
 }
 
 #[test]
-fn frames_of_memory(rt: HostRuntime) -> Result<(), Fail> {
-    let mut memory = memory(rt.alloc(), 3)?;
+fn frames_of_memory(rt: HostRuntime) {
+    let mut memory = memory(rt.alloc(), 3).expect(&rt, "memory");
     copy(&mut memory);
     assert!(rt; first_of_last(&memory) == Some(7));
     zero(&mut memory);
     assert!(rt; first_of_last(&memory) == Some(0));
-    Ok(())
 }
 
 // A doubleword through the two calls of memory of any kind, and one behind its end.
@@ -95,12 +92,11 @@ impl Mem for NoBytes {
 }
 
 #[test]
-fn memory_of_any_kind(rt: HostRuntime) -> Result<(), Fail> {
+fn memory_of_any_kind(rt: HostRuntime) {
     assert!(rt; through(&mut NoBytes, 0) == (false, None));
-    let mut memory = memory(rt.alloc(), 3)?;
+    let mut memory = memory(rt.alloc(), 3).expect(&rt, "memory");
     assert!(rt; through(&mut memory, 12280) == (true, Some(5)));
     assert!(rt; through(&mut memory, 12288) == (false, None));
-    Ok(())
 }
 
 // RAM of one block begins at 80000000.
@@ -122,10 +118,9 @@ fn is_outside(memory: &mut PhysMem, part: &Part) -> Option<(bool, Option<u64>)> 
 }
 
 #[test]
-fn a_guests_ram(rt: HostRuntime) -> Result<(), Fail> {
-    let mut memory = memory(rt.alloc(), 1024)?;
+fn a_guests_ram(rt: HostRuntime) {
+    let mut memory = memory(rt.alloc(), 1024).expect(&rt, "memory");
     let part = part(&[0], 512, 516, 0, 0);
     assert!(rt; through_ram(&mut memory, &part) == Some((true, Some(5))));
     assert!(rt; is_outside(&mut memory, &part) == Some((false, None)));
-    Ok(())
 }

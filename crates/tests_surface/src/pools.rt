@@ -5,13 +5,12 @@
 ghost use Rattle.std.specs.Prelude.{◌≡◌, ◌<◌, length, IfOk, IfSome};
 ghost use Rattle.shadow_pool.specs.Slots.{HasSpaceFor, TidyPool, spaces_of};
 
+use crate::machines::{PoolInMemory, empty_pool, part};
 use arch_defs::{Entry, Fence, GuestMode, GuestRoot, Key};
 use no_memory::NoMemory;
 use phys_mem::PhysMem;
 use shadow_pool::Pool;
 use std::alloc::Global;
-use std::test::Fail;
-use test_memory::{PoolInMemory, empty_pool, part};
 
 // A pool of two spaces.
 fn two_spaces(alloc: Global) -> Result<Option<PoolInMemory>, NoMemory>
@@ -106,13 +105,10 @@ fn are_in_order(machine: &mut PoolInMemory, p: Key, q: Key, r: Key) -> [bool; 4]
 }
 
 #[test]
-fn two_spaces_in_order(rt: HostRuntime) -> Result<(), Fail> {
-    let Some(mut machine) = two_spaces(rt.alloc())? else {
-        assert!(rt; false);
-        return Ok(());
-    };
+fn two_spaces_in_order(rt: HostRuntime) {
+    let made = two_spaces(rt.alloc()).expect(&rt, "memory");
+    let mut machine = made.expect(&rt, "frames for the tables");
     assert!(rt; are_in_order(&mut machine, key(1), key(2), key(3)) == [true, true, true, true]);
-    Ok(())
 }
 
 // A fill into a space that is not in front, and a fence that names another VMID, and then its own.
@@ -143,13 +139,10 @@ fn fenced(machine: &mut PoolInMemory, p: Key, q: Key) -> [bool; 3]
 }
 
 #[test]
-fn a_fence_of_a_pool(rt: HostRuntime) -> Result<(), Fail> {
-    let Some(mut machine) = two_spaces(rt.alloc())? else {
-        assert!(rt; false);
-        return Ok(());
-    };
+fn a_fence_of_a_pool(rt: HostRuntime) {
+    let made = two_spaces(rt.alloc()).expect(&rt, "memory");
+    let mut machine = made.expect(&rt, "frames for the tables");
     assert!(rt; fenced(&mut machine, key(1), key(2)) == [true, true, true]);
-    Ok(())
 }
 
 // Whether the page is still the space's where block 7 is in the place of block 5.
@@ -167,7 +160,6 @@ fn moved(alloc: Global) -> Result<Option<bool>, NoMemory> {
 }
 
 #[test]
-fn a_pool_in_a_moved_part(rt: HostRuntime) -> Result<(), Fail> {
-    assert!(rt; moved(rt.alloc())? == Some(true));
-    Ok(())
+fn a_pool_in_a_moved_part(rt: HostRuntime) {
+    assert!(rt; moved(rt.alloc()).expect(&rt, "memory") == Some(true));
 }

@@ -5,14 +5,14 @@
 ghost use Rattle.std.specs.Prelude.{◌≡◌, ◌≤◌, ◌<◌, ◌*◌, ◌^◌, length, IfOk, IfSome};
 ghost use Rattle.shadow_space.specs.Shadows.{Tidy};
 
+use crate::machines::{SpaceInMemory, empty_space, part};
+use crate::words::Words;
 use arch_defs::{Access, Entry, Shape, WalkEnd};
 use no_memory::NoMemory;
 use phys_mem::PhysMem;
 use shadow_space::Space;
 use stage_walk::walk;
 use std::alloc::Global;
-use std::test::Fail;
-use test_memory::{SpaceInMemory, Words, empty_space, part};
 
 const PAGE: Entry = Entry {
     page: 0x10,
@@ -49,16 +49,32 @@ fn fill(space: &mut Space, mem: &mut PhysMem, page: u64)
     space.fill(mem, entry);
 }
 
-// Fills the first page of each of the first spans of 262,144 pages.
-fn fill_spans(space: &mut Space, mem: &mut PhysMem, count: u64)
+// Spans of 262,144 pages, which have a table of level 1 each, or of 134,217,728, which have one of level 2.
+#[derive(Clone, Copy)]
+enum Span {
+    Large,
+    Huge,
+}
+
+fn first_page(span: Span, i: u64) -> u64
+    requires { i ≤ 16 }
+    ensures { result < 2 ^ 38 }
+{
+    match span {
+        Span::Large => 0x4_0000 * i,
+        Span::Huge => 0x800_0000 * i,
+    }
+}
+
+// Fills the first page of each of the first sixteen spans.
+fn fill_spans(space: &mut Space, mem: &mut PhysMem, span: Span)
     requires tidy { Tidy space.old mem.old }
     requires blocks { length space.old.part.blocks ≡ 2 }
-    requires few { count ≤ 16 }
     ensures tidy { Tidy space.new mem.new }
     ensures blocks { length space.new.part.blocks ≡ 2 }
 {
-    for i in 0..count {
-        fill(space, mem, 0x4_0000 * i);
+    for i in 0..16 {
+        fill(space, mem, first_page(span, i));
     }
 }
 
@@ -95,21 +111,31 @@ fn differing(mem: &PhysMem, before: &[u64]) -> u64 {
 }
 
 // Of sixteen pages in spans of their own the oldest goes for one more: whether it has a leaf then, and how
-// many doublewords differ: three of each page's tables, since all share the root's entry.
-fn one_more(alloc: Global) -> Result<Option<(bool, u64)>, NoMemory> {
+// many doublewords differ.
+fn one_more(alloc: Global, span: Span, page: u64) -> Result<Option<(bool, u64)>, NoMemory>
+    requires { page < 2 ^ 38 }
+{
     let Some(SpaceInMemory { mut mem, mut space }) = of_sixteen(alloc)? else {
         return Ok(None);
     };
-    fill_spans(&mut space, &mut mem, 16);
+    fill_spans(&mut space, &mut mem, span);
     let before = words_of(alloc, &mem)?;
-    fill(&mut space, &mut mem, 4_194_817);
+    fill(&mut space, &mut mem, page);
     Ok(Some((has_leaf(&mem, 0), differing(&mem, &before))))
 }
 
+// Three of each page's tables, since all share the root's entry.
 #[test]
-fn a_fill_of_one_page_more(rt: HostRuntime) -> Result<(), Fail> {
-    assert!(rt; one_more(rt.alloc())? == Some((false, 6)));
-    Ok(())
+fn a_fill_of_one_page_more(rt: HostRuntime) {
+    let made = one_more(rt.alloc(), Span::Large, 4_194_817).expect(&rt, "memory");
+    assert!(rt; made == Some((false, 6)));
+}
+
+// Four of each page's tables: the pages share none, and differ in the index of each level.
+#[test]
+fn a_fill_of_one_page_of_another_region(rt: HostRuntime) {
+    let made = one_more(rt.alloc(), Span::Huge, 0x8004_0201).expect(&rt, "memory");
+    assert!(rt; made == Some((false, 8)));
 }
 
 // Two pages, one of which is cut, and then both are wiped.
@@ -127,9 +153,9 @@ fn cut_and_wiped(alloc: Global) -> Result<Option<[bool; 3]>, NoMemory> {
 }
 
 #[test]
-fn a_cut_and_a_wipe(rt: HostRuntime) -> Result<(), Fail> {
-    assert!(rt; cut_and_wiped(rt.alloc())? == Some([true, true, false]));
-    Ok(())
+fn a_cut_and_a_wipe(rt: HostRuntime) {
+    let made = cut_and_wiped(rt.alloc()).expect(&rt, "memory");
+    assert!(rt; made == Some([true, true, false]));
 }
 
 // Whether a page has its leaf where block 7 is in the place of block 5.
@@ -145,7 +171,6 @@ fn moved(alloc: Global) -> Result<Option<bool>, NoMemory> {
 }
 
 #[test]
-fn a_space_in_a_moved_part(rt: HostRuntime) -> Result<(), Fail> {
-    assert!(rt; moved(rt.alloc())? == Some(true));
-    Ok(())
+fn a_space_in_a_moved_part(rt: HostRuntime) {
+    assert!(rt; moved(rt.alloc()).expect(&rt, "memory") == Some(true));
 }

@@ -1,5 +1,6 @@
 // Each type that has public fields, taken apart, and each with variants, one by one.
 
+use crate::machines::part;
 use arch_defs::{
     Access, Csrs, Entry, Fence, GuestRoot, HartState, HypervisorStatus, Interrupts, Level, Mode,
     Regs, Shape, SupervisorCsrs, Tag, Trap, Virtual,
@@ -7,8 +8,6 @@ use arch_defs::{
 use guest_settings::{Bytes, GuestSpec, Inputs, Name, Need, Status};
 use no_memory::NoMemory;
 use std::alloc::Global;
-use std::test::Fail;
-use test_memory::part;
 
 #[test]
 fn a_trap(rt: HostRuntime) {
@@ -144,8 +143,8 @@ fn spec(alloc: Global) -> Result<GuestSpec, NoMemory> {
 }
 
 #[test]
-fn a_guest(rt: HostRuntime) -> Result<(), Fail> {
-    let spec = spec(rt.alloc())?;
+fn a_guest(rt: HostRuntime) {
+    let spec = spec(rt.alloc()).expect(&rt, "memory");
     let need: Need = spec.need();
     assert!(rt; need.spaces == 2);
     let GuestSpec {
@@ -167,7 +166,6 @@ fn a_guest(rt: HostRuntime) -> Result<(), Fail> {
     let image: Vec<u8> = image.into_vec();
     let inputs: Vec<(u64, u8)> = inputs.into_vec();
     assert!(rt; (name.len(), image.len(), inputs.len()) == (1, 1, 1));
-    Ok(())
 }
 
 #[test]

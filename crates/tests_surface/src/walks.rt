@@ -2,6 +2,7 @@
 
 ghost use Rattle.hlv_hsv.specs.Ends.{IsHlvOrHsv};
 
+use crate::machines::{memory, part, put};
 use arch_defs::{Access, Csrs, Mode, Part, Reg, Regs, Shape, Trap, Virtual, WalkEnd, Width};
 use console_dev::Console;
 use csr_file::{read, write};
@@ -13,8 +14,6 @@ use phys_mem::{PhysMem, Ram};
 use rv64_asm::fits;
 use stage_walk::{Fetch, walk};
 use std::alloc::Global;
-use std::test::Fail;
-use test_memory::{memory, part, put};
 use trap_delegation::enter_hs;
 use two_stage_walk::translate;
 
@@ -147,27 +146,25 @@ fn htinst_after(trap: &Trap) -> Option<u64> {
 
 // The entry of vsatp's table lies at 40000, which hgatp's has no leaf for: an implicit read's fault.
 #[test]
-fn a_fetch_whose_entry_has_no_place(rt: HostRuntime) -> Result<(), Fail> {
+fn a_fetch_whose_entry_has_no_place(rt: HostRuntime) {
     let part = part(&[0], 512, 520, 1, 16);
-    let mut memory = ram(rt.alloc(), &[])?;
+    let mut memory = ram(rt.alloc(), &[]).expect(&rt, "memory");
     let csrs = with(&[(0x280, 0x8000_0000_0000_0040)]);
     let refused = trap(20, 0, 0x1_0000, true);
     assert!(rt; fetched(&mut memory, &part, &csrs) == Some(Err(refused)));
     assert!(rt; htinst_after(&refused) == Some(0x3000));
     assert!(rt; fetched(&mut memory, &part, &with(&[])) == Some(Ok(0x8000_1000)));
-    Ok(())
 }
 
 // The root of vsatp's table is the page 0, which hgatp's table does not map: htinst becomes 0 there.
 #[test]
-fn a_fetch_whose_root_has_no_place(rt: HostRuntime) -> Result<(), Fail> {
+fn a_fetch_whose_root_has_no_place(rt: HostRuntime) {
     let part = part(&[0], 512, 520, 1, 16);
-    let mut memory = ram(rt.alloc(), &[(0x9000, 0)])?;
+    let mut memory = ram(rt.alloc(), &[(0x9000, 0)]).expect(&rt, "memory");
     let csrs = with(&[(0x280, 0x8000_0000_0000_0000)]);
     let refused = trap(20, 0, 0, true);
     assert!(rt; fetched(&mut memory, &part, &csrs) == Some(Err(refused)));
     assert!(rt; htinst_after(&refused) == Some(0));
-    Ok(())
 }
 
 // HLV.BU and HLVX.HU of x10 from the address in x11.
@@ -240,25 +237,30 @@ const HS_MXR: (u16, u64) = (0x100, 0x8_0000);
 
 // A page that can only be executed is loaded from with sstatus.MXR alone.
 #[test]
-fn hlv_of_an_executable_page(rt: HostRuntime) -> Result<(), Fail> {
+fn hlv_of_an_executable_page(rt: HostRuntime) {
     let refused = Some(Err(trap(21, 0x1000, 0x400, false)));
-    assert!(rt; loaded(rt.alloc(), Mode::HS, &[AS_VS], hlv_bu())? == refused);
-    assert!(rt; loaded(rt.alloc(), Mode::HS, &[AS_VS, VS_MXR], hlv_bu())? == refused);
-    assert!(rt; loaded(rt.alloc(), Mode::HS, &[AS_VS, HS_MXR], hlv_bu())? == Some(Ok(65)));
-    Ok(())
+    assert!(rt; loaded(rt.alloc(), Mode::HS, &[AS_VS], hlv_bu()).expect(&rt, "memory") == refused);
+    assert!(rt;
+        loaded(rt.alloc(), Mode::HS, &[AS_VS, VS_MXR], hlv_bu()).expect(&rt, "memory") == refused
+    );
+    assert!(rt;
+        loaded(rt.alloc(), Mode::HS, &[AS_VS, HS_MXR], hlv_bu()).expect(&rt, "memory")
+            == Some(Ok(65))
+    );
 }
 
 #[test]
-fn hlvx_of_an_executable_page(rt: HostRuntime) -> Result<(), Fail> {
+fn hlvx_of_an_executable_page(rt: HostRuntime) {
     for values in [[AS_VS, AS_VS], [AS_VS, VS_MXR], [AS_VS, HS_MXR]] {
-        assert!(rt; loaded(rt.alloc(), Mode::HS, &values, hlvx_hu())? == Some(Ok(65)));
+        assert!(rt;
+            loaded(rt.alloc(), Mode::HS, &values, hlvx_hu()).expect(&rt, "memory") == Some(Ok(65))
+        );
     }
-    Ok(())
 }
 
 // From U without HU it is illegal, with its word for stval: 0110000 00001 01011 100 01010 1110011.
 #[test]
-fn hlv_from_user_mode(rt: HostRuntime) -> Result<(), Fail> {
+fn hlv_from_user_mode(rt: HostRuntime) {
     let refused = Trap {
         cause: 2,
         interrupt: false,
@@ -267,8 +269,9 @@ fn hlv_from_user_mode(rt: HostRuntime) -> Result<(), Fail> {
         gva: false,
         implicit: false,
     };
-    assert!(rt; loaded(rt.alloc(), Mode::U, &[AS_VS], hlv_bu())? == Some(Err(refused)));
-    Ok(())
+    assert!(rt;
+        loaded(rt.alloc(), Mode::U, &[AS_VS], hlv_bu()).expect(&rt, "memory") == Some(Err(refused))
+    );
 }
 
 // CSRRW x10, sscratch, x11 in HS.

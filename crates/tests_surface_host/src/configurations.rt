@@ -2,7 +2,6 @@
 
 use run_config::{Config, ConfigFault, ConfigKey, InputEnd, ReadEnd, inputs, read};
 use std::alloc::Global;
-use std::test::Fail;
 
 const K: &'static str = "format = 1
 quantum = 10000
@@ -105,8 +104,7 @@ fn records(alloc: Global, bytes: &[u8]) -> Option<Result<usize, u64>> {
 }
 
 #[test]
-fn a_file_of_inputs(rt: HostRuntime) -> Result<(), Fail> {
+fn a_file_of_inputs(rt: HostRuntime) {
     assert!(rt; records(rt.alloc(), &[10, 0, 0, 0, 0, 0, 0, 0, 48]) == Some(Ok(1)));
     assert!(rt; records(rt.alloc(), &[10, 0, 0, 0, 0, 0, 0, 0, 48, 0]) == Some(Err(1)));
-    Ok(())
 }

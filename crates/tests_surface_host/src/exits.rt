@@ -18,7 +18,6 @@ use no_memory::NoMemory;
 use phys_mem::PhysMem;
 use rv64_hart::{Hart, Stop, Tally, Why};
 use std::alloc::Global;
-use std::test::Fail;
 use virtual_timer::Clock;
 
 // A guest at the start of its RAM, which is block 1 of machine memory.
@@ -115,15 +114,12 @@ fn first_two(guest: &mut Guest, memory: &mut PhysMem) -> Option<(Outcome, Outcom
 
 // The word 0 is illegal, and its trap goes to address 0, where no fetch finds RAM.
 #[test]
-fn a_guest_without_an_image(rt: HostRuntime) -> Result<(), Fail> {
-    let mut guest = guest(rt.alloc())?;
-    let Some(mut memory) = placed(rt.alloc(), &guest)? else {
-        assert!(rt; false);
-        return Ok(());
-    };
+fn a_guest_without_an_image(rt: HostRuntime) {
+    let mut guest = guest(rt.alloc()).expect(&rt, "memory");
+    let made = placed(rt.alloc(), &guest).expect(&rt, "memory");
+    let mut memory = made.expect(&rt, "frames for the guest");
     let two = first_two(&mut guest, &mut memory);
     assert!(rt; two == Some((Outcome::Trapped(1), Outcome::Left(TRAPPED_INTO_HS))));
-    Ok(())
 }
 
 // What the host answers at an exception into HS.
@@ -153,17 +149,19 @@ fn parts_of(guest: Guest) -> (u64, bool, Status) {
 }
 
 #[test]
-fn what_the_host_keeps_of_a_guest(rt: HostRuntime) -> Result<(), Fail> {
-    let guest = guest(rt.alloc())?;
+fn what_the_host_keeps_of_a_guest(rt: HostRuntime) {
+    let guest = guest(rt.alloc()).expect(&rt, "memory");
     assert!(rt; parts_of(guest) == (0, false, Status::Running));
-    Ok(())
 }
 
 // An exit's answer by a number.
 fn number_of(handled: Handled) -> u8 {
     match handled {
         Handled::Stepped => 0,
-        Handled::Trapped { .. } => 1,
+        Handled::Trapped {
+            level: _level,
+            interrupt: _interrupt,
+        } => 1,
         Handled::Retry => 2,
         Handled::Waits => 3,
         Handled::Stopped => 4,

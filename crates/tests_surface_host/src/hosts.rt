@@ -14,7 +14,6 @@ use no_memory::NoMemory;
 use outside::{ListSink, SinkFault};
 use rv64_hart::Tally;
 use std::alloc::Global;
-use std::test::Fail;
 
 // Puts `A` and stops: addi x17, x0, 1; addi x10, x0, 65; ecall; addi x17, x0, 8; ecall.
 const PUTS_A: [u8; 20] = [
@@ -22,14 +21,19 @@ const PUTS_A: [u8; 20] = [
     0x73, 0x00, 0x00, 0x00,
 ];
 
+// Jumps to itself: jal x0, 0.
+const LOOPS: [u8; 20] = [
+    0x6F, 0, 0, 0, 0, 0, 0, 0, 0, 0, 0, 0, 0, 0, 0, 0, 0, 0, 0, 0,
+];
+
 // A guest of one block.
-fn guest(alloc: Global) -> Result<GuestSpec, NoMemory>
+fn guest(alloc: Global, image: &[u8; 20]) -> Result<GuestSpec, NoMemory>
     ensures bootable { IfOk result IsBootable }
     ensures need { IfOk result (λ spec. need_of spec ≡ record { blocks = 1; spaces = 1; entries = 16 }) }
 {
     Ok(GuestSpec {
         name: Name::from_vec(Vec::from_slice(alloc, b"a")?),
-        image: Bytes::from_vec(Vec::from_slice(alloc, &PUTS_A)?),
+        image: Bytes::from_vec(Vec::from_slice(alloc, image)?),
         blocks: 1,
         spaces: 1,
         entries: 16,
@@ -41,30 +45,30 @@ fn guest(alloc: Global) -> Result<GuestSpec, NoMemory>
 
 // Two of them.
 #[tactic(auto, using(crate::proofs::SurfaceGuests::two_boot, crate::proofs::SurfaceGuests::two_fit))]
-fn two(alloc: Global) -> Result<Vec<GuestSpec>, NoMemory>
+fn two(alloc: Global, image: &[u8; 20]) -> Result<Vec<GuestSpec>, NoMemory>
     ensures bootable { IfOk result (λ guests. AreBootable guests.items) }
     ensures frames { IfOk result (λ guests. frames_for guests.items ≤ 1138) }
 {
-    let first = guest(alloc)?;
-    let second = guest(alloc)?;
+    let first = guest(alloc, image)?;
+    let second = guest(alloc, image)?;
     Ok(vec![in alloc; first, second]?)
 }
 
-fn booted(alloc: Global) -> Result<Host, NoMemory> {
-    Host::boot(alloc, two(alloc)?)
+fn booted(alloc: Global, image: &[u8; 20]) -> Result<Host, NoMemory> {
+    Host::boot(alloc, two(alloc, image)?)
 }
 
 fn booted_spare(alloc: Global, spare: u64) -> Result<Option<Host>, NoMemory> {
     if spare > 32 {
         return Ok(None);
     }
-    Ok(Some(Host::boot_spare(alloc, two(alloc)?, spare)?))
+    Ok(Some(Host::boot_spare(alloc, two(alloc, &PUTS_A)?, spare)?))
 }
 
 // A turn of a guest.
 fn turned(host: &mut Host, g: u32, k: u64, tally: &mut Tally) -> Option<u64> {
     host.rooms_are_small();
-    if g >= host.count() || host.has_retired(g) || k > 1000 || host.steps(g) > 1000 {
+    if g >= host.count() || host.has_retired(g) || k > 10_000 || host.steps(g) > 1000 {
         return None;
     }
     if tally.entries() > 1000 || tally.taken() > 1000 {
@@ -93,14 +97,22 @@ fn has_put(host: &Host, g: u32, bytes: &[u8]) -> bool {
 }
 
 #[test]
-fn turns(rt: HostRuntime) -> Result<(), Fail> {
-    let mut host: Host = booted(rt.alloc())?;
+fn turns(rt: HostRuntime) {
+    let mut host: Host = booted(rt.alloc(), &PUTS_A).expect(&rt, "memory");
     let mut tally: Tally = Tally::new();
     assert!(rt; turned(&mut host, 0, 10, &mut tally) == Some(5));
     assert!(rt; told(&host, 0) == Some((Status::Stopped, 5)));
     assert!(rt; has_put(&host, 0, b"A"));
     assert!(rt; told(&host, 1) == Some((Status::Running, 0)));
-    Ok(())
+}
+
+// Ten thousand steps at which nothing is due are one entry of the hart.
+#[test]
+fn a_calm_turn_enters_the_hart_once(rt: HostRuntime) {
+    let mut host = booted(rt.alloc(), &LOOPS).expect(&rt, "memory");
+    let mut tally = Tally::new();
+    assert!(rt; turned(&mut host, 0, 10_000, &mut tally) == Some(10_000));
+    assert!(rt; (tally.entries(), tally.taken()) == (1, 10_000));
 }
 
 // Whether a block of a guest moves; none where the call may not be made.
@@ -128,8 +140,8 @@ fn retired(host: &mut Host, g: u32) -> bool {
 
 // No block is free until the other guest retires.
 #[test]
-fn a_block_moves_when_another_guest_has_retired(rt: HostRuntime) -> Result<(), Fail> {
-    let mut host = booted(rt.alloc())?;
+fn a_block_moves_when_another_guest_has_retired(rt: HostRuntime) {
+    let mut host = booted(rt.alloc(), &PUTS_A).expect(&rt, "memory");
     let mut moves: Moves = Moves::new();
     assert!(rt; relocated(&mut host, 0, 0, &mut moves) == Some(false));
     assert!(rt; retired(&mut host, 1));
@@ -137,14 +149,12 @@ fn a_block_moves_when_another_guest_has_retired(rt: HostRuntime) -> Result<(), F
     let free: u64 = host.free_blocks();
     let count: u64 = moves.count();
     assert!(rt; (free, count) == (1, 1));
-    Ok(())
 }
 
 #[test]
-fn spare_blocks(rt: HostRuntime) -> Result<(), Fail> {
-    let host = booted_spare(rt.alloc(), 2)?;
+fn spare_blocks(rt: HostRuntime) {
+    let host = booted_spare(rt.alloc(), 2).expect(&rt, "memory");
     assert!(rt; host.map(|host| host.free_blocks()) == Some(2));
-    Ok(())
 }
 
 // What is saved of a guest.
@@ -198,31 +208,26 @@ fn resumed(alloc: Global, bytes: &[u8]) -> Result<Option<Host>, NoMemory> {
 
 // A guest at its start has 78 numbers of 8 bytes, and its RAM of 2,097,152 bytes.
 #[test]
-fn a_saved_guest(rt: HostRuntime) -> Result<(), Fail> {
-    let host = booted(rt.alloc())?;
-    let sink = saved(rt.alloc(), &host, 0)?;
+fn a_saved_guest(rt: HostRuntime) {
+    let host = booted(rt.alloc(), &PUTS_A).expect(&rt, "memory");
+    let sink = saved(rt.alloc(), &host, 0).expect(&rt, "memory");
     assert!(rt; sink.map(|sink| sink.bytes().len()) == Some(2_097_776));
-    Ok(())
 }
 
 #[test]
-fn bytes_that_are_no_machine(rt: HostRuntime) -> Result<(), Fail> {
-    let host = resumed(rt.alloc(), b"NESTHV")?;
+fn bytes_that_are_no_machine(rt: HostRuntime) {
+    let host = resumed(rt.alloc(), b"NESTHV").expect(&rt, "memory");
     assert!(rt; host.is_none());
-    Ok(())
 }
 
 // A guest that goes on from its start beside a spare block.
 #[test]
-fn a_guest_that_goes_on(rt: HostRuntime) -> Result<(), Fail> {
-    let host = booted(rt.alloc())?;
-    let Some(sink) = saved(rt.alloc(), &host, 0)? else {
-        assert!(rt; false);
-        return Ok(());
-    };
-    let gone_on = resumed(rt.alloc(), sink.bytes())?;
+fn a_guest_that_goes_on(rt: HostRuntime) {
+    let host = booted(rt.alloc(), &PUTS_A).expect(&rt, "memory");
+    let kept = saved(rt.alloc(), &host, 0).expect(&rt, "memory");
+    let sink = kept.expect(&rt, "a guest that can be saved");
+    let gone_on = resumed(rt.alloc(), sink.bytes()).expect(&rt, "memory");
     assert!(rt; gone_on.map(|host| host.free_blocks()) == Some(1));
-    Ok(())
 }
 
 // The blocks of a fresh guest.
@@ -237,10 +242,9 @@ fn blocks_of(source: Source) -> Option<u64> {
 }
 
 #[test]
-fn a_source(rt: HostRuntime) -> Result<(), Fail> {
-    let source = Source::Fresh(guest(rt.alloc())?);
+fn a_source(rt: HostRuntime) {
+    let source = Source::Fresh(guest(rt.alloc(), &PUTS_A).expect(&rt, "memory"));
     let need: Need = source.need();
     assert!(rt; need.blocks == 1);
     assert!(rt; blocks_of(source) == Some(1));
-    Ok(())
 }

@@ -14,3 +14,5 @@ mod outputs;
 mod programs;
 #[cfg(test)]
 mod states;
+#[cfg(test)]
+mod system;

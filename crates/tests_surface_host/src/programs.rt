@@ -6,7 +6,6 @@ use no_memory::NoMemory;
 use outside::{ListSink, MapStore, Word};
 use rv64_hart::Tally;
 use std::alloc::Global;
-use std::test::Fail;
 
 const USAGE: &'static [u8] =
     b"nesthv: usage: run CONFIG | replay CONFIG REPORT | check CONFIG | work SEED SIZE \
@@ -48,10 +47,9 @@ fn called(alloc: Global, texts: &[&str]) -> Result<Left, NoMemory> {
 }
 
 #[test]
-fn no_command(rt: HostRuntime) -> Result<(), Fail> {
-    let left = called(rt.alloc(), &["nesthv", "run"])?;
+fn no_command(rt: HostRuntime) {
+    let left = called(rt.alloc(), &["nesthv", "run"]).expect(&rt, "memory");
     assert!(rt; left.status == 1);
     assert!(rt; left.out.bytes() == b"".as_slice());
     assert!(rt; left.err.bytes() == USAGE);
-    Ok(())
 }

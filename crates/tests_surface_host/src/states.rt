@@ -8,8 +8,6 @@ use no_memory::NoMemory;
 use phys_mem::PhysMem;
 use rv64_hart::{Hart, Stop, Tally, Why};
 use std::alloc::Global;
-use std::test::Fail;
-use test_memory::{memory, part, put};
 use world_switch::{load, save, to_guest_hs, to_nested};
 
 const START: u64 = 0x8000_0000;
@@ -111,7 +109,7 @@ fn a_key(rt: HostRuntime) {
 fn own_part() -> Part
     ensures { result.blocks ≡ 5 ∷ 2 ∷ [] }
 {
-    part(&[5, 2], 8, 16, 1, 0)
+    Part::new(&[5, 2], 8, 16, 1, 0)
 }
 
 // A guest with a reservation at its start.
@@ -171,8 +169,10 @@ fn both_switches(rt: HostRuntime) {
 
 // JAL x0, 0 at the start of one frame, where the hart begins.
 fn looping(alloc: Global) -> Result<PhysMem, NoMemory> {
-    let mut memory = memory(alloc, 1)?;
-    put(&mut memory, 0, 0x6F);
+    let mut memory = PhysMem::new(alloc, 1)?;
+    if memory.size() == 4096 {
+        memory.store(0, 4, 0x6F);
+    }
     Ok(memory)
 }
 
@@ -191,13 +191,12 @@ fn run(hart: &mut Hart, memory: &mut PhysMem, limit: u64) -> (u64, bool, [u64; 2
 }
 
 #[test]
-fn a_run_walks_once(rt: HostRuntime) -> Result<(), Fail> {
-    let mut memory = looping(rt.alloc())?;
+fn a_run_walks_once(rt: HostRuntime) {
+    let mut memory = looping(rt.alloc()).expect(&rt, "memory");
     let mut hart: Hart = Hart::new();
     assert!(rt; run(&mut hart, &mut memory, 10_000) == (10_000, true, [1, 10_000]));
     let walks: u64 = hart.walks();
     assert!(rt; walks == 1);
-    Ok(())
 }
 
 // A hart is lent, and lent to be changed.

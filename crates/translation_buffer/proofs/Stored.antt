@@ -89,16 +89,3 @@ serves_completed buffer first owner csrs mode memory reading state width (StoreR
     by true = serves_stored buffer first owner csrs mode memory width place value serves free aligned inside
     by false = serves
 serves_completed buffer first owner csrs mode memory reading state width (Modify op operand rd) place serves free aligned inside = serves_stored buffer first owner csrs mode memory width place _ serves free aligned inside
-
--- a doubleword
-pub serves_doubleword : (buffer : Buffer) (first : List FirstEntry) (owner : Tag) (csrs : Csrs) (mode : Mode) (memory : List ℕ) (place value : ℕ) → Serves buffer first owner csrs mode memory
-    → has_frame buffer.read (place / 4096) ≡ false → place % 8 ≡ 0 → place < length memory → length memory % 4096 ≡ 0
-    → Serves buffer first owner csrs mode (pasted memory place (little_bytes 8 value))
-serves_doubleword buffer first owner csrs mode memory place value serves free aligned inside whole =
-    let size : length (little_bytes 8 value) ≡ 8 = length-bytes_low_first 0 8 value in
-    serves_pasted buffer first owner csrs mode memory place (little_bytes 8 value) serves free
-    (subst (λ n. place % 4096 + n ≤ 4096) (sym size) (fits_frame Double place aligned))
-    (subst (λ n. place + n ≤ length memory) (sym size) (fits_whole place (length memory) aligned inside whole))
-  where
-    fits_whole : (place size : ℕ) → place % 8 ≡ 0 → place < size → size % 4096 ≡ 0 → place + 8 ≤ size
-    fits_whole place size aligned inside whole = omega (arith, aligned, inside, whole)
