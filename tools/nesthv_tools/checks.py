@@ -9,6 +9,7 @@ COMPILER = re.compile(r"error\[[\w-]+\]")  # in a line on code that reaches no p
 STOPPED = re.compile(r"antt ran out of |outgrew the memory limit|stopped at the step limit")
 BY_VALUES = "allow values at which this goal is false"
 BY_CALL = "it calls "  # a function is not proved only because one that it calls is not
+NOT_COVERED = "does not cover this function"  # a function in a form that gets no goals
 TOLD = ("error", "open", "gave up")  # a line with one of these tells why a crate is not proved
 
 
@@ -33,6 +34,8 @@ def saying_of(function: str, text: str, before: list[str]) -> Saying:
         return Saying(function, Verdict(PROVED))
     if BY_CALL in text:
         return Saying(function, None)
+    if NOT_COVERED in text:
+        return Saying(function, Verdict(BAD, text))
     why = next((line for line in before if REASON.match(line)), text)
     return Saying(function, Verdict(VALUES if any(BY_VALUES in line for line in before) else OPEN, why))
 

@@ -19,6 +19,7 @@ find src -name '*.rt' -exec cat {} + | awk '
 / refuted / { print "note: src/lib.rt:1:1: it is not proved; the facts known there allow values at which this goal is false" }
 / unproved / { print "note: src/lib.rt:1:1: it is not proved: `search` gave up" }
 / refuted | unproved / { print "fn one::" name ": no proof: expected answers in ./proofs/Answers.antt"; failed = 1; next }
+/ uncovered / { print "fn one::" name ": no proof: the borrow checker does not cover this function yet"; failed = 1; next }
 / resting / { resting = name; next }
 /^ *fn / { print "fn one::" name ": proved" }
 END {
@@ -226,6 +227,16 @@ controls: 3 proved, 0 refused, 0 none
 """, "", "--edits")
         self.assertEqual(checks[:5], [f"check --jobs 1 --only {functions}" for functions in (
             "both --only less --only sum", "both", "less --only sum", "less", "sum")])
+
+    def test_edit_that_gets_no_goals(self):
+        self.put_edits(half="{ uncovered }", equal="{ refuted }")
+        checks = self.check_said(1, """\
+one/equal: refused (values), control proved
+one/half: bad (no proof: the borrow checker does not cover this function yet), control proved
+2 edits: 1 refused (1 by values, 0 by an open goal, 0 by a limit), 0 PROVED, 1 bad; \
+controls: 2 proved, 0 refused, 0 none
+""", "", "--edits")
+        self.assertEqual(len(checks), 2)
 
     def test_edits_of_one_function(self):
         self.put_edits(half="{ refuted }")
