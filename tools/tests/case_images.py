@@ -1,4 +1,5 @@
 """Images that a generator of numbers makes: noise, and the guests of `nesthv work` (docs/definitions.md)."""
+import functools
 import itertools
 import struct
 from collections.abc import Iterator
@@ -22,6 +23,7 @@ def numbers(seed: int) -> Iterator[int]:
         yield seed // 65536
 
 
+@functools.cache
 def noise(seed: int, count: int) -> bytes:
     """That many bytes that are drawn from a seed on."""
     return bytes(drawn % 256 for drawn in itertools.islice(numbers(seed), count))

@@ -17,8 +17,8 @@ from case_files import Line, Refusal, Suite
 ASSEMBLERS = ("riscv64-linux-gnu-as", "riscv64-unknown-elf-as")
 FLAGS = ("-march=rv64ima_zicsr_zifencei_h", "-mabi=lp64", "-mno-relax", "-al")
 LABEL = re.compile(r"([A-Za-z_]\w*): (.*)")
-# A line of a listing with a word: the line of the source, the offset, and the bytes.
-LISTED = re.compile(r"\s*(\d+) [0-9a-f]{4,} ([0-9A-F]{8})\s")
+# A line of a listing with a word: the line of the source, the offset at its first word, and the bytes.
+LISTED = re.compile(r"\s*(\d+) (?:[0-9a-f]{4,}|\s+) ([0-9A-F]{8})\s")
 FAULT = re.compile(r"[^:]*:(\d+): (.*)")
 
 # The words of programs by their texts.
