@@ -129,11 +129,11 @@ class Modes(unittest.TestCase):
 
 def plans_of(family):
     """The first cases of a family. Those of `registers` are of each instruction in each mode on each register that
-    there is."""
+    there is, and those of `interrupts` go on where the timer may be pending."""
     if family == "registers":
         firsts = [kind << 12 | number for kind in range(32) for number in (0x100, 0x200, 0x600)]
         return [Plan(family, 1, first, 0x81, 0) for first in firsts]
-    return [Plan(family, 1, 0, 1024, 0)]
+    return [Plan(family, 1, first, 512, 0) for first in (0, 131072 if family == "interrupts" else 512)]
 
 
 def stages(line):
