@@ -33,6 +33,8 @@ static struct {
     bool is_wide, is_guest_wide;        /* with a first stage of four levels; with a second */
     bool stores, fetches, needs_dirty, is_misaligned, is_failing_sc, has_extension;
     u64 root_top, root_index, page, guest_top, guest_index, data_slot;
+    /* Of the line alone: entries that name tables, and second-stage leaves of tables. */
+    u64 pointers[6], tables[3], pointer_count, table_count, table_level, delegated, operand;
 } c;
 
 static u64 leaf_at(u64 address, u64 bits) { return address >> PAGE << 10 | bits; }
@@ -201,14 +203,16 @@ static u64 changed(u64 bits, bool *has_extension)
     return bits;
 }
 
-/* An entry that names a table, with a bit changed now and then. */
+/* An entry that names a table, with a bit changed now and then. The line has it without the table's place. */
 static u64 named(u64 place)
 {
     u64 entry = leaf_at(place, V);
     if (once_in(64))
         entry ^= 1ul << (once_in(4) ? 54 + below(7) : below(10));
-    if (once_in(128))
+    bool is_elsewhere = once_in(128);
+    if (is_elsewhere)
         entry = leaf_at(once_in(2) ? RAM_END : 0x1000000000, V);
+    c.pointers[c.pointer_count++] = is_elsewhere ? entry : entry - leaf_at(place, 0);
     return entry;
 }
 
@@ -269,6 +273,7 @@ static u64 write_table_leaf(const void *place)
     u64 bits = once_in(8) ? changed(GOOD | USER, &c.has_extension) : GOOD | USER;
     u64 leaf = leaf_at((u64)place, bits);
     table_leaves[((u64)place >> PAGE) & 511] = leaf;
+    c.tables[c.table_count++] = bits;
     return leaf;
 }
 
@@ -290,6 +295,7 @@ static bool write_tables(void)
         if (c.root_top != 0)
             rests |= may_be_set(write_table_leaf(upper), false);
         u64 level = below(16);
+        c.table_level = level == 1 || level == 2 ? level : 0;
         guest_root[1] = level == 2 ? leaf_at(IMAGE, GOOD | USER) : leaf_at((u64)table_middle, V);
         table_middle[0] = level == 1 ? leaf_at(IMAGE, GOOD | USER) : leaf_at((u64)table_leaves, V);
     }
@@ -321,7 +327,8 @@ static void write_registers(void)
         : (u64)SV39 << 60 | (u64)guest_root >> PAGE;
     write_csr(VSATP, c.is_bare ? 0 : first);
     write_csr(HGATP, c.is_flat ? 0 : second);
-    write_csr(HEDELEG, once_in(3) ? 0xB0F9 : 0);
+    c.delegated = once_in(3) ? 0xB0F9 : 0;
+    write_csr(HEDELEG, c.delegated);
     write_csr(VSTVEC, stub_supervisor + 4);
     write_csr(VSCAUSE, 0);
     write_csr(VSEPC, 0);
@@ -353,6 +360,18 @@ static void tell(const char *choice)
     told_number("sstatus", c.status);
     told_number("vsstatus", c.guest_status);
     told_number("hstatus", c.hypervisor);
+    told_number("hedeleg", c.delegated);
+    told_number("word", c.word);
+    told_number("bytes", c.first_bytes);
+    told_number("operand", c.operand);
+    told_number("top", c.guest_top);
+    told_number("index", c.guest_index);
+    told_number("slot", c.data_slot);
+    for (u64 each = 0; each < c.pointer_count; each++)
+        told_number("pointer", c.pointers[each]);
+    for (u64 each = 0; each < c.table_count; each++)
+        told_number("table", c.tables[each]);
+    told_number("tables", c.table_level);
     told(choice);
     told(":");
 }
@@ -390,7 +409,7 @@ void one_case(u64 number)
     }
     write_registers();
     hart.a0 = c.address;
-    hart.a1 = any();
+    hart.a1 = c.operand = any();
     hart.a2 = 0x5A;
     const char *choice = c.is_misaligned ? "misaligned" : sets ? "svade" : c.is_failing_sc ? "sc"
         : c.has_extension ? "extension" : "-";

@@ -48,8 +48,8 @@ static struct {
     enum named address, space;
     enum use first, second;
     int level, guest_level;
-    bool is_user, is_global;
-    u64 page, va, old, new;
+    bool is_user, is_global, names_zero;
+    u64 page, va, old, new, within, upper;
 } c;
 
 static u64 leaf_at(u64 address, u64 bits) { return address >> 12 << 10 | bits; }
@@ -75,6 +75,9 @@ static void choose(void)
     c.is_global = once_in(4);
     c.page = (u64)page_b >> 12 & 511;
     c.va = VIRTUAL_GIGAPAGE << 30 | c.page << 12;
+    c.within = any();
+    c.upper = any();
+    c.names_zero = once_in(4);
 }
 
 /* The first stage to this gigapage by these tables, with a leaf of the case's level. */
@@ -226,6 +229,21 @@ static u64 seen(enum use use)
 /* An address of the case's page as it is in a page at 1000: what it is in truth depends on the compiler. */
 static u64 in_page(u64 address) { return address >> 12 == c.va >> 12 ? 0x1000 | (address & 4095) : address; }
 
+/* Any address of the leaf, or another one. A register that has 0 names address 0, and not all. */
+static u64 named_address(u64 address, u64 level)
+{
+    u64 size = 1ul << (12 + 9 * level);
+    if (c.address == OTHER)
+        return c.names_zero ? 0 : address ^ 1ul << 36;
+    return (address & -size) | (c.within & (size - 1));
+}
+
+/* An ASID of 16 bits or a VMID of 14, or another one. The bits above do not count. */
+static u64 named_space(u64 space, u32 bits)
+{
+    return (c.space != OTHER ? space : c.names_zero ? 0 : space ^ 2) | (c.names_zero ? 0 : c.upper << bits);
+}
+
 /* The fence's word has a0 for the address and a1 for the ASID or VMID, or x0 in their places. */
 static void make_fence(void)
 {
@@ -237,9 +255,9 @@ static void make_fence(void)
         return;
     }
     bool is_guests = c.fence == HFENCE_GVMA;
-    u64 address = is_guests ? (GIGAPAGE << 30 | c.page << 12) >> 2 : c.va;
-    hart.a0 = c.address == OTHER ? address ^ 1ul << 36 : address;
-    hart.a1 = (is_guests ? VMID : ASID) ^ (c.space == OTHER ? 2 : 0);
+    hart.a0 = is_guests ? named_address(GIGAPAGE << 30 | c.page << 12, (u64)c.guest_level) >> 2
+        : named_address(c.va, (u64)c.level);
+    hart.a1 = is_guests ? named_space(VMID, 14) : named_space(ASID, 16);
     u32 word = words[c.fence] | (c.address != ALL ? 10u << 15 : 0) | (c.space != ALL ? 11u << 20 : 0);
     make(c.fence == SFENCE ? VS : HS, word, 0, 0);
 }

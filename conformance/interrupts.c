@@ -4,6 +4,15 @@
 #define NOP 0x13
 #define SSTATUS_SIE 2ul
 #define SSTATUS_SPIE 0x20ul     /* is SIE after SRET */
+#define FIRST_WITH_TIMER 131072 /* from this case on the timer of S may be pending too */
+
+/* Call 0: STIP is pending from this moment on. */
+static void set_timer(u64 moment)
+{
+    register u64 a0 __asm__("a0") = moment;
+    register u64 a7 __asm__("a7") = 0;
+    __asm__ volatile("ecall" : "+r"(a0) : "r"(a7) : "a1", "memory");
+}
 
 /* A case that ends in HS without a trap may leave SIE set. */
 static void clear(void)
@@ -54,7 +63,6 @@ static void show(void)
 
 void one_case(u64 number)
 {
-    (void)number;
     enum mode mode = below(4);
     u64 status = once_in(2) ? SSTATUS_SPIE : 0;
     write_csr(HIDELEG, any() & 0x444);
@@ -66,8 +74,13 @@ void one_case(u64 number)
     write_csr(VSCAUSE, 0);
     write_csr(VSEPC, 0);
     hart.a2 = 0;
+    bool is_timed = number >= FIRST_WITH_TIMER && once_in(2);
+    if (is_timed)
+        set_timer(0);
     tell(mode, status);
     make(mode, NOP, status, 0);
     show();
     clear();
+    if (is_timed)
+        set_timer(-1ul);
 }

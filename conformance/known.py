@@ -81,16 +81,23 @@ def leaves_out_sum(found):
         status(found, "hstatus") & 1 << 8 != 0)
 
 
+def number_of(words):
+    """The number of the register that a case names, or 0."""
+    if words[2:3] == ["register"]:
+        return int(words[3], 16)
+    return int(words[3], 16) >> 20 if words[0].startswith("csrr") and words[2:3] == ["word"] else 0
+
+
 def register_of(found):
     """The number of the register that a case reaches, or 0; those of S are those of VS in VS and VU."""
     words = found.head.split()
-    number = int(words[3], 16) if words[2:3] == ["register"] else 0
+    number = number_of(words)
     return number + 0x100 if number >> 8 == 1 and words[1] in ("VS", "VU") else number
 
 
 def is_illegal_in_vu(found):
     words = found.head.split()
-    return words[1:3] == ["VU", "register"] and int(words[3], 16) >> 8 == 1 and codes(found) == ("22", "2")
+    return words[1:2] == ["VU"] and number_of(words) >> 8 == 1 and codes(found) == ("22", "2")
 
 
 def holds_more(found):

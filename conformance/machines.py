@@ -10,9 +10,9 @@ from typing import NamedTuple
 FOLDER = os.path.dirname(os.path.abspath(__file__))
 TOP = os.path.dirname(FOLDER)
 # How many cases of each family have a stored report, and how many cases a sum is of.
-FAMILIES = {"accesses": 262144, "registers": 262144, "interrupts": 131072, "traps": 131072,
+FAMILIES = {"accesses": 262144, "registers": 262144, "interrupts": 163840, "traps": 131072,
             "returns": 65536, "vectors": 65536, "aliases": 65536, "clock": 16384,
-            "pairs": 65536, "fences": 131072}
+            "pairs": 65536, "fences": 131072, "instructions": 131072}
 BLOCK = 4096
 # MODEs of translation that a machine may have, as --modes gives them: Sv39 and Sv39x4 alone, or Sv48 and
 # Sv48x4 too, as nesthv. A family in which cases differ by these has a report for each.

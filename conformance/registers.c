@@ -186,17 +186,19 @@ void one_case(u64 index)
     for (u64 each = 0; each < KNOWN; each++)
         if (!starts_clear(known[each].number, c.mode))
             write_of(known[each].number, before_case(&known[each]));
-    u64 before = read_of(reached());
+    u64 before = read_of(reached()), hypervisor = any() & 0x700000;
     told(operations[c.operation]);
     told(mode_names[c.mode]);
     told_number("register", c.number);
     told_number("value", c.value);
     told_number("hideleg", read_csr(HIDELEG) & 0x444);
+    told_number("hstatus", hypervisor);
+    told_number("before", c.entry == 0 ? 0 : before & c.entry->decided);
     told(c.is_extra ? "register" : c.is_illegal ? "legal" : "-");
     told(":");
     hart.a1 = c.value;
     hart.a2 = 0x5A;
-    make(c.mode, word_of_case(), 0, any() & 0x700000);
+    make(c.mode, word_of_case(), 0, hypervisor);
     show(before);
     clear();
 }

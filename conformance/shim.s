@@ -1,5 +1,5 @@
-# The environment of an image on a machine that starts in M: calls 1 and 8, by a UART or by HTIF.
-# conformance/run fills in the first doublewords.
+# The environment of an image on a machine that starts in M: calls 1 and 8, by a UART or by HTIF, and call 0, of
+# which 0 makes the timer of S pending, and another moment not. conformance/run fills in the first doublewords.
     .option norelax
     .equ    UART, 0x10000000
     .equ    FINISH, 0x100000
@@ -67,6 +67,7 @@ trap:
     csrw    mepc, t0
     addi    t0, a7, -8
     beqz    t0, stop
+    beqz    a7, timer
     ld      t0, has_htif
     bnez    t0, put_by_htif
     li      t1, UART
@@ -83,6 +84,12 @@ put_by_htif:
     bnez    t0, 1b
     la      t1, fromhost
     sd      zero, 0(t1)
+    j       answer
+timer:
+    li      t0, 0x20            # STIP
+    csrc    mip, t0
+    bnez    a0, answer
+    csrs    mip, t0
 answer:
     li      a0, 0
     ld      t0, 0(s0)

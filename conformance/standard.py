@@ -3,11 +3,19 @@ what the program makes of them. Sections are those of Privileged Architecture 20
 """
 import re
 
+import access_tables
+import csr_bits
+import rv64ima
+import two_stages
+
 SIE, SPIE, SPP = 2, 0x20, 0x100
-GVA, SPV, SPVP, VTSR = 0x40, 0x80, 0x100, 1 << 22
+GVA, SPV, SPVP, HU = 0x40, 0x80, 0x100, 0x200
+VTVM, VTW, VTSR = 1 << 20, 1 << 21, 1 << 22
+SUM, MXR = 1 << 18, 1 << 19
 NOWHERE = 0x1000000000          # an address outside RAM
 HANDLER, TABLE = 0x10, 0x400    # where traps into VS go, and where they go if vstvec is vectored
 NO_TRAP = 0xFF
+ADDRESSED = {0, 1, 3, 4, 5, 6, 7, 12, 13, 15, 20, 21, 23}   # codes with an address in stval
 
 
 def told(words):
@@ -44,24 +52,29 @@ def after_trap(status, is_supervisor):
     return status & ~(SIE | SPIE | SPP) | (SPIE if status & SIE else 0) | (SPP if is_supervisor else 0)
 
 
-def trapped(mode, code, state):
-    """The registers after an exception, by 8.2.1, 8.2.2 and 8.6.2. Where it goes to VS, the handler there
-    ends by ECALL."""
+def trapped(mode, code, state, value=0, place=0, is_guests=False):
+    """The registers after an exception with this stval at this place, by 8.2.1, 8.2.2 and 8.6.2. Where it goes to
+    VS, the handler there ends by ECALL. `is_guests` says that stval is an address of the guest's also with V = 0."""
     values = dict(state)
     if is_virtual(mode) and state["hedeleg"] >> code & 1:
-        values["vscause"], values["vsstatus"] = code, after_trap(state["vsstatus"], mode == "VS")
-        return trapped("VS", 10, values | {"hedeleg": 0})
-    values["cause"], values["sstatus"] = code, after_trap(state["sstatus"], mode in ("HS", "VS"))
+        values |= {"vscause": code, "vstval": value, "vsepc": place,
+                   "vsstatus": after_trap(state["vsstatus"], mode == "VS")}
+        return trapped("VS", 10, values | {"hedeleg": 0}, 0, HANDLER)
+    values |= {"cause": code, "tval": value, "epc": place,
+               "sstatus": after_trap(state["sstatus"], mode in ("HS", "VS"))}
     hypervisor = state["hstatus"] & ~(GVA | SPV)
     if is_virtual(mode):
-        hypervisor = hypervisor & ~SPVP | SPV | (SPVP if mode == "VS" else 0) | (GVA if code in (1, 3) else 0)
-    values["hstatus"] = hypervisor
+        hypervisor = hypervisor & ~SPVP | SPV | (SPVP if mode == "VS" else 0)
+    has_address = code in ADDRESSED and (is_virtual(mode) or is_guests)
+    values["hstatus"] = hypervisor | (GVA if has_address else 0)
     return values
 
 
-def ended(mode, state):
+def ended(mode, state, place=4):
     """The registers at the call that ends a case, or in HS at its jump."""
-    return trapped(mode, 10 if mode == "VS" else 8, state) if mode != "HS" else state | {"cause": NO_TRAP}
+    if mode == "HS":
+        return state | {"cause": NO_TRAP, "tval": 0, "epc": 0}
+    return trapped(mode, 10 if mode == "VS" else 8, state, 0, place)
 
 
 def of_returns(words):
@@ -218,5 +231,169 @@ def of_fences(words):
     return expected
 
 
-DECIDED = {"returns": of_returns, "vectors": of_vectors, "aliases": of_aliases, "clock": of_clock,
-           "pairs": of_pairs, "fences": of_fences}
+def of_instructions(words):
+    """An instruction of RV64IMA with any registers. A name with `~` rests on a choice."""
+    mode, state = words[1], told(words)
+    fields = {name: state[name] for name in rv64ima.Case._fields if name != "mode"}
+    made = rv64ima.outcome(rv64ima.Case(mode=mode, **fields))
+    value = rv64ima.unsigned(state["target"] if made.value is None else made.value)
+    target = state["word"] >> 7 & 31
+    changed = 1 << target if target != 0 and value != state["target"] else 0
+    is_end = made.code is None
+    # What faults and is of SYSTEM is HLV, HLVX or HSV, whose address is the guest's.
+    after = trapped(mode, made.code or 0, state | {"hedeleg": 0, "sstatus": 0}, 0, 0, state["word"] & 0x7F == 0x73)
+    expected = {"cause": NO_TRAP if is_end else made.code, "end": rv64ima.unsigned(made.pc - rv64ima.CODE),
+                "changed": changed, "value": value if target != 0 else 0,
+                "bytes": state["bytes"] if made.bytes is None else made.bytes, "beside": 1,
+                "sscratch": state["sscratch"], "vsscratch": state["vsscratch"],
+                "tval": 0 if is_end else made.tval, "htval": 0, "htinst": 0,
+                "hstatus": 0 if is_end else after["hstatus"] & (GVA | SPV | SPVP)}
+    if made.scratch is not None:
+        expected[made.scratch[0]] = rv64ima.unsigned(made.scratch[1])
+    if made.choice == "pair":
+        del expected["changed"]
+        rest = {"others": 0, "agrees": 1, "~value": expected.pop("value"), "~bytes": expected.pop("bytes")}
+        return expected | rest
+    return {f"~{name}": value for name, value in expected.items()} if made.choice else expected
+
+
+def of_registers(words):
+    """An instruction on a register. Another machine may have one that this has not; time is that of `clock`."""
+    operation, mode, state = words[0], words[1], told(words)
+    number, value = state["register"], state["value"]
+    if number not in csr_bits.NAMES:
+        return {} if number == csr_bits.TIME else {"cause": 2, "epc": 0}
+    writes = csr_bits.is_written(operation, value)
+    name = csr_bits.NAMES[csr_bits.reached(number, mode)]
+    code = csr_bits.code_of(number, mode, writes, state["hstatus"] & VTVM != 0)
+    cause = code or {"HS": NO_TRAP, "VS": 10}[mode]
+    # The way into the mode writes some registers of HS, and a trap back does.
+    before = {"sstatus": SPIE, "hstatus": state["hstatus"]}.get(name, state["before"])
+    if writes and csr_bits.is_left_open(name, operation) or name == "sepc" or name in TRAPPED and mode != "HS":
+        return {"cause": cause}
+    if code is not None:
+        return {"cause": code, "epc": 0, "reads": 0x5A, "holds": before}
+    decided = csr_bits.DECIDED[name][0]
+    holds = csr_bits.held(name, operation, before, value, state["hideleg"]) if writes else before
+    return {"cause": cause, "reads": 0x5A & decided if operation == "csrw" else before, "holds": holds}
+
+
+TRAPPED = {"sstatus", "hstatus", "scause", "stval"}
+
+
+def code_of(name, mode, state):
+    """The code of an instruction that traps in some modes, by 3.3.1, 3.3.2, 8.2.1 and 8.6.1; or none."""
+    refused = 2 if mode == "U" else 22
+    if name in ("mret", "zeros", "ones"):
+        return 2
+    if name in ("ecall", "ebreak"):
+        return 3 if name == "ebreak" else 10 if mode == "VS" else 8
+    if name in ("nop", "fence.i"):
+        return None
+    if name.startswith(("hlv", "hsv")):
+        return None if mode == "HS" or mode == "U" and state["hstatus"] & HU else refused
+    if mode == "HS":
+        return None
+    kept = {"sret": VTSR, "wfi": VTW, "sfence.vma": VTVM}.get(name)
+    return None if mode == "VS" and kept is not None and state["hstatus"] & kept == 0 else refused
+
+
+def of_traps(words):
+    """An instruction that traps in some modes. SRET in HS goes to itself in U."""
+    name, mode, state = words[0], words[1], told(words)
+    is_supervisor = state["vsstatus"] & SPP != 0
+    state |= {"sstatus": SPIE, "vscause": 0, "vstval": 0, "vsepc": 4, "a2": 0x5A, "htval": 0, "htinst": 0}
+    code = code_of(name, mode, state)
+    if name == "sret" and mode == "HS":
+        mode, code, state["sstatus"] = "U", 2, after_return(state["sstatus"])
+    if code is not None:
+        value = {2: state["word"], 22: state["word"], 3: 0xE0}.get(code, 0)
+        return only(trapped(mode, code, state, value), TRAP | {"a2", "datum"})
+    if name == "sret":
+        mode, state["vsstatus"] = "VS" if is_supervisor else "VU", after_return(state["vsstatus"])
+    state |= {"hlv.d": {"a2": state["datum"]}, "hlvx.wu": {"a2": state["datum"] & 0xFFFFFFFF},
+              "hsv.d": {"datum": state["operand"]}}.get(name, {})
+    return only(ended(mode, state), TRAP | {"a2", "datum"})
+
+
+TRAP = {"cause", "tval", "epc", "hstatus", "sstatus", "vscause", "vstval", "vsepc", "vsstatus"}
+
+
+def only(values, names):
+    return {name: value for name, value in values.items() if name in names}
+
+
+def access_of(words, state):
+    """What an access of `accesses` needs, by 8.3.1 and 8.5."""
+    name, mode = words[:2]
+    kind = "fetch" if name == "fetch" else "execute" if name.startswith("hlvx") else (
+        "load" if name[:2] in ("lb", "lh", "lw", "ld", "lr") or name.startswith("hlv") else "store")
+    is_user = mode == "VU" or mode in ("HS", "U") and state["hstatus"] & SPVP == 0
+    flags, guests = state["sstatus"], state["vsstatus"]
+    return two_stages.Access(kind, is_user, guests & SUM != 0, (flags | guests) & MXR != 0, flags & MXR != 0)
+
+
+# Misaligned, access, page and guest-page faults (tables 4.2 and 8.6).
+CODES = {"fetch": (0, 1, 12, 20), "load": (4, 5, 13, 21), "execute": (4, 5, 13, 21), "store": (6, 7, 15, 23)}
+
+
+def refusal_of(words, state):
+    """The code of the fault of an access, or none, and htval and htinst after it, by 8.2.8 and 8.6.3. Where an
+    implicit read faults, htval is an entry's place."""
+    access, address, none = access_of(words, state), state["at"], {"htval": 0, "htinst": 0}
+    misaligned, refused, page, guest_page = CODES[access.kind]
+    if access.kind != "fetch" and address % rv64ima.size_of(state["word"]) != 0:
+        return misaligned, none
+    try:
+        two_stages.translated(access_tables.stages_of(words, state), address, access)
+    except two_stages.Fault as fault:
+        if fault.kind != "guest":
+            return page if fault.kind == "page" else refused, none
+        return guest_page, {"htinst": 0x3000} if fault.is_implicit else {"htval": fault.address >> 2, "htinst": 0}
+    return None, none
+
+
+def made_of(name, state):
+    """a2 and the doubleword where an access is made. An SC has no reservation."""
+    offset = state["at"] % 8
+    if name == "fetch":
+        mask = 0xFFFFFFFF << 8 * offset
+        return {"a2": 0x5A, "bytes": state["bytes"] & ~mask | 0x73 << 8 * offset}
+    if name == "sc":
+        return {"a2": 1, "bytes": state["bytes"]}
+    case = rv64ima.Case(state["word"], "HS", rv64ima.RAM.start + offset, state["operand"], state["bytes"], 0, 0, 0)
+    made = rv64ima.outcome(case)
+    return {"a2": 0x5A if made.value is None else rv64ima.unsigned(made.value),
+            "bytes": state["bytes"] if made.bytes is None else made.bytes}
+
+
+def of_accesses(words):
+    """An access through both stages. A misaligned one traps before any other fault of it."""
+    name, mode, state = words[0], words[1], told(words)
+    address, is_fetch = state["at"], name == "fetch"
+    made = made_of(name, state)
+    state |= {"sstatus": after_return(state["sstatus"]), "vscause": 0, "vstval": 0, "vsepc": 0, "a2": 0x5A,
+              "bytes": made["bytes"] if is_fetch else state["bytes"]}
+    code, hypervisor = refusal_of(words, state)
+    if code is None:
+        values = ended(mode, state | made, address if is_fetch else 4)
+    else:
+        values = trapped(mode, code, state, address, address if is_fetch else 0, is_guests=True)
+    return only(values, TRAP | {"a2", "bytes"}) | hypervisor
+
+
+def of_interrupts(words):
+    """An instruction that does nothing, with interrupts, by 8.2.3."""
+    mode, state = words[1], told(words)
+    taken = interrupt(mode, state)
+    expected = {"vscause": 0, "hip": state["hvip"], "vsip": (state["hvip"] & state["hideleg"]) >> 1,
+                "vsie": (state["hie"] & state["hideleg"]) >> 1}
+    if taken is None:
+        return expected | {"cause": {"HS": NO_TRAP, "VS": 10}.get(mode, 8)}
+    code, is_guests = taken
+    return expected | ({"cause": 10, "vscause": 1 << 63 | code} if is_guests else {"cause": 1 << 63 | code})
+
+
+DECIDED = {"accesses": of_accesses, "registers": of_registers, "interrupts": of_interrupts, "traps": of_traps,
+           "returns": of_returns, "vectors": of_vectors, "aliases": of_aliases, "clock": of_clock,
+           "pairs": of_pairs, "fences": of_fences, "instructions": of_instructions}

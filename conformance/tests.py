@@ -1,6 +1,6 @@
 #!/usr/bin/env python3
 """Tests of the suite: what the standard decides of single cases, the judge, and the runner's files and
-options. They take ten seconds of a processor, and need dist/nesthv; one needs QEMU too, or
+options. They take some twelve seconds of a processor, and need dist/nesthv; one needs QEMU too, or
 is left out.
 """
 # Usage: conformance/tests.py     (from any folder)
@@ -20,6 +20,7 @@ from nesthv_tools.csrs import NUMBERS as CSRS
 import judge
 import known
 import machines
+import rv64ima
 import standard
 from machines import Plan
 
@@ -65,24 +66,19 @@ class Cases(unittest.TestCase):
         fetch, load, store = {"1", "12", "20"}, {"4", "5", "13", "21"}, {"6", "7", "15", "23"}
         allowed = {"fetch": fetch, "load": load, "lr": load, "hlv": load, "hlvx": load, "store": store,
                    "sc": store, "amo": store, "hsv": store}
-        for line in NESTHV.lines(Plan("accesses", 1, 0, 2048, 0)):
+        for line in NESTHV.lines(Plan("accesses", 1, 0, 1024, 0)):
             case = judge.parsed(line)
             kind = judge.class_of(case.head.split()[0])
             self.assertIn(judge.outcome_of(case.values), allowed[kind] | {DONE}, line)
 
-    def test_interrupts_are_taken_in_the_order_of_the_standard(self):
-        for line in NESTHV.lines(Plan("interrupts", 1, 0, 1024, 0)):
-            case = judge.parsed(line)
-            words = case.head.split()
-            taken = standard.interrupt(words[1], standard.told(words))
-            self.assertEqual(judge.outcome_of(case.values), f"i{taken[0]}" if taken else DONE, line)
-
     def test_cases_are_as_the_standard_says(self):
-        for family, decided in standard.DECIDED.items():
-            for line in NESTHV.lines(Plan(family, 1, 0, 1024, 0)):
+        self.assertEqual(set(standard.DECIDED), set(machines.FAMILIES))
+        for plan in [plan for family in machines.FAMILIES for plan in plans_of(family)]:
+            for line in NESTHV.lines(plan):
                 case = judge.parsed(line)
-                for name, value in decided(case.head.split()).items():
-                    self.assertEqual(int(case.values[name], 16), value, f"{name} of {line}")
+                for name, value in standard.DECIDED[plan.family](case.head.split()).items():
+                    found = case.values[name] if name in case.values else case.values[f"~{name}"]
+                    self.assertEqual(int(found, 16), value, f"{name} of {line}")
 
     def test_a_case_is_the_same_behind_any_other(self):
         for family in machines.FAMILIES:
@@ -118,7 +114,7 @@ class Modes(unittest.TestCase):
     def test_upper_bits_of_an_address_are_those_of_its_mode(self):
         """Where they are not copies of bit 38 (4.4.1), or of bit 47 (4.5.1), it is a page fault."""
         faults, count = {"12", "13", "15"}, 0
-        for line in NESTHV.lines(Plan("accesses", 1, 0, 2048, 0, (8, 9))):
+        for line in NESTHV.lines(Plan("accesses", 1, 0, 1024, 0, (8, 9))):
             case = judge.parsed(line)
             words = case.head.split()
             bits = {"sv39": 39, "sv48": 48}.get(stages(line)[0])
@@ -128,7 +124,16 @@ class Modes(unittest.TestCase):
             if address >> bits - 1 not in (0, (1 << 65 - bits) - 1):
                 self.assertIn(judge.outcome_of(case.values), faults, line)
                 count += 1
-        self.assertGreater(count, 20)
+        self.assertGreater(count, 10)
+
+
+def plans_of(family):
+    """The first cases of a family. Those of `registers` are of each instruction in each mode on each register that
+    there is, and those of `interrupts` go on where the timer may be pending."""
+    if family == "registers":
+        firsts = [kind << 12 | number for kind in range(32) for number in (0x100, 0x200, 0x600)]
+        return [Plan(family, 1, first, 0x81, 0) for first in firsts]
+    return [Plan(family, 1, first, 512, 0) for first in (0, 131072 if family == "interrupts" else 512)]
 
 
 def stages(line):
@@ -146,6 +151,58 @@ def register_lines(number, modes):
 
 def read_back(line):
     return int(judge.parsed(line).values["holds"], 16)
+
+
+# Words of GNU as 2.40 for instructions of RV64IMA, Zicsr, Zifencei, S and H, and words that the tables of the standard
+# reserve, put together by hand: by other values of funct3, funct7, rs1, rs2 and rd.
+WORDS = """
+007302B3 407302B3 007312B3 007322B3 007332B3 007342B3 007352B3 407352B3 007362B3 007372B3 027302B3
+027312B3 027322B3 027332B3 027342B3 027352B3 027362B3 027372B3 7FF30293 80030293 FFF32293 00133293
+80134293 40036293 00037293 00031293 01F31293 02031293 03F31293 03F35293 00135293 43F35293 42035293
+007302BB 407302BB 007312BB 007352BB 407352BB 027302BB 027342BB 027352BB 027362BB 027372BB 8003029B
+7FF3029B 01F3129B 0003529B 01F3529B 41F3529B 7FFFF2B7 800002B7 00001297 FFFFF297 80030283 7FF31283
+FFF32283 00833283 00034283 FFE35283 40036283 80730023 7E731FA3 00732FA3 02733023 FE733FA3 80730063
+7E731FE3 FE734FE3 00735163 007360E3 FE737F63 00730F63 02730063 7FFFF2EF 800002EF 001002EF FFFFF2EF
+7FE002EF 000012EF 7FF302E7 800302E7 FFF302E7 000302E7 087322AF 0C7332AF 047322AF 027332AF 227322AF
+267332AF 667322AF 607332AF 407322AF 447332AF 847322AF 827332AF A27322AF A67332AF C67322AF C07332AF
+E07322AF E47332AF 100322AF 140332AF 1A7322AF 187332AF 100312F3 C00322F3 FFF332F3 000352F3 644362F3
+C01372F3 600342F3 640342F3 680342F3 6C0342F3 601342F3 641342F3 681342F3 643342F3 683342F3 62734073
+66734073 6A734073 6E734073 12730073 22730073 62730073 0FF0000F 8330000F 0100000F FFFF8F8F 0000100F
+FFFF9F8F
+"""
+RESERVED = """
+FFFFFFFF 00732287 007322A7 007302D3 007302D7 0073028B 00737283 007342A3 007372A3 007322E3 007332E3
+007312E7 047302B3 807302B3 427302B3 7E7352B3 407372B3 407312B3 04731293 40731293 04735293 80735293
+44735293 0273129B 0273529B 4273529B 0073229B 0073729B 007322BB 007372BB 027312BB 027332BB 407312BB
+047302BB 0073228F 0073728F 107322AF 167332AF 007302AF 007312AF 007342AF 287322AF 887332AF F87322AF
+00200073 30200073 7B200073 000000F3 001000F3 102000F3 105000F3 00008073 127302F3 227302F3 627302F3
+16730073 602342F3 644342F3 603342F3 6C1342F3 6C3342F3 627342F3 700342F3 72734073
+"""
+# x / y, x % y, and the same without signs: by zero, and where the quotient is too large (table 7.1).
+LEAST, ONES = 1 << 63, (1 << 64) - 1
+DIVISIONS = [(7, 0, ONES, 7, ONES, 7), (ONES, 0, ONES, ONES, ONES, ONES), (LEAST, ONES, LEAST, 0, 0, LEAST),
+             (ONES - 6, 2, ONES - 2, ONES, LEAST - 4, 1)]
+
+
+class Instructions(unittest.TestCase):
+    """The second source of `instructions`, by rows of others."""
+
+    def made(self, word, first=0, second=0):
+        return rv64ima.outcome(rv64ima.Case(word, "HS", first, second, 0, 0, 0, 0))
+
+    def test_words_are_instructions_or_not(self):
+        for words, is_none in ((WORDS, False), (RESERVED, True)):
+            for word in words.split():
+                made = self.made(int(word, 16))
+                is_refused = (made.code, made.tval, made.pc) == (2, int(word, 16), rv64ima.CODE)
+                is_read_only = word == "C01372F3" or int(word[:3], 16) == rv64ima.HGEIP
+                self.assertEqual(is_refused and not is_read_only, is_none, word)
+
+    def test_divisions_by_zero_and_out_of_range(self):
+        for first, second, *expected in DIVISIONS:
+            words = (0x027342B3, 0x027362B3, 0x027352B3, 0x027372B3)
+            found = [rv64ima.unsigned(self.made(word, first, second).value) for word in words]
+            self.assertEqual(found, expected, f"{first:X} {second:X}")
 
 
 class Judge(unittest.TestCase):

@@ -58,6 +58,9 @@ static void tell(const char *choice)
     told_number("hstatus", c.hypervisor);
     told_number("hedeleg", c.delegated);
     told_number("vsstatus", c.status);
+    told_number("word", c.word);
+    told_number("datum", datum);
+    told_number("operand", hart.a1);
     told(choice);
     told(":");
 }
