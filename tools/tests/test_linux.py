@@ -86,7 +86,7 @@ class UBootTest(BuildTest):
             self.assertIn(said, self.refused(*words))
 
     def test_no_compiler(self):
-        said = self.refused("out", variables={"CROSS": "none-"})
+        said = self.refused("out", variables={**self.programs(), "CROSS": "none-"})
         self.assertIn("there is no none-gcc", said)
         self.assertIn("libssl-dev", said)
 
