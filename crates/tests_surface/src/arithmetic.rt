@@ -100,25 +100,20 @@ fn atomic_operations(rt: HostRuntime) {
     assert!(rt; double == 0x8000_0000);
 }
 
-// Whether it is ADDI x10, x0, 65.
-fn is_addi(op: Op) -> bool {
-    if let Op::AluImmediate {
-        op: AluOp::Add,
-        rd,
-        rs1,
-        immediate,
-    } = op
-    {
-        rd.number() == 10 && rs1.number() == 0 && immediate == 65
-    } else {
-        false
-    }
-}
-
-// The word 0 is not an instruction.
+// ADDI x10, x0, 65; the word 0 is not an instruction.
 #[test]
 fn words_are_decoded(rt: HostRuntime) {
     let none: Option<Op> = decode(0u32);
     assert!(rt; none.is_none());
-    assert!(rt; decode(0x0410_0513u32).map(is_addi) == Some(true));
+    let some = decode(0x0410_0513u32);
+    assert!(rt;
+        matches!(
+            some,
+            Some(Op::AluImmediate {
+                op: AluOp::Add,
+                immediate: 65,
+                ..
+            })
+        )
+    );
 }
