@@ -5,7 +5,6 @@ from typing import NamedTuple
 
 FUNCTION = re.compile(r"fn (\S+): (.*)")
 REASON = re.compile(r"(?:note: )?(?:\./)?(?:src|specs|proofs)/\S+: |error")  # what begins a line that tells why
-COMPILER = re.compile(r"error\[[\w-]+\]")  # in a line on code that reaches no prover
 STOPPED = re.compile(r"antt ran out of |outgrew the memory limit|stopped at the step limit")
 BY_VALUES = "allow values at which this goal is false"
 BY_CALL = "it calls "  # a function is not proved only because one that it calls is not
@@ -82,13 +81,10 @@ class Checked:
         return Verdict(PROVED) if all(found) and None not in verdicts else None
 
     def of_all(self) -> Verdict:
-        """What it says of all that it was asked of, and does not prove."""
+        """What it says of all that it was asked of, and does not prove. Where it refuses no function, and met no
+        limit, it has judged nothing."""
         refused = [verdict for _, verdict in self.sayings if verdict and verdict.word != PROVED]
         if refused:
             return refused[0]
         limit = next((line for line in self.lines if STOPPED.search(line)), None)
-        if limit:
-            return Verdict(LIMIT, limit)
-        if any(COMPILER.search(line) for line in self.lines):
-            return Verdict(BAD, next(line for line in self.lines if COMPILER.search(line)))
-        return Verdict(OPEN, self.why())
+        return Verdict(LIMIT, limit) if limit else Verdict(BAD, self.why())
