@@ -74,6 +74,28 @@ _nesthv_batch() {
         --sshlogin' "$2"
 }
 
+# The options of an ELF file or an image, where --console and --write mean something else.
+_nesthv_own_image='--steps --blocks --spaces --entries --input --device'
+
+_nesthv_explore() {
+    case $3 in
+    --try)
+        mapfile -t COMPREPLY < <(compgen -W 'timer input late wake reservation translations' -- "$2")
+        return
+        ;;
+    --by | --seed | --from | --to | --each | --runs | --time | --shard | --stops | --expect | --expect-regex) return ;;
+    --sshlogin | --steps | --blocks | --spaces | --entries) return ;;
+    esac
+    _nesthv_files "--try --by --twice --seed --from --to --each --runs --time --shard --again --verdict --console
+        --stops --expect --expect-regex --json --tap --junit --write --elf --program --sshlogin
+        $_nesthv_own_image" "$2"
+}
+
+_nesthv_fuzz() {
+    case $3 in --at | --most | --time | --steps | --blocks | --spaces | --entries) return ;; esac
+    _nesthv_files "--write --at --most --time --prepare --show --program $_nesthv_own_image" "$2"
+}
+
 _nesthv_debug() {
     case $3 in --gdb | --steps | --blocks | --spaces | --entries | --console) return ;; esac
     if [[ $3 == *.toml ]] && [[ $2 != -* ]]; then
@@ -143,6 +165,8 @@ complete -F _nesthv_look nesthv-look tools/look
 complete -F _nesthv_inputs nesthv-inputs tools/inputs
 complete -F _nesthv_saved nesthv-saved tools/saved
 complete -F _nesthv_batch nesthv-batch tools/batch
+complete -F _nesthv_explore nesthv-explore tools/explore
+complete -F _nesthv_fuzz nesthv-fuzz tools/fuzz
 complete -F _nesthv_debug nesthv-debug tools/debug
 complete -F _nesthv_profile nesthv-profile tools/profile
 complete -F _nesthv_gdb nesthv-gdb dist/nesthv-gdb

@@ -1,4 +1,4 @@
-#compdef nesthv nesthv-gdb nesthv-trace nesthv-run nesthv-look nesthv-debug nesthv-profile nesthv-batch nesthv-inputs nesthv-saved nesthv-qemu-run
+#compdef nesthv nesthv-gdb nesthv-trace nesthv-run nesthv-look nesthv-debug nesthv-profile nesthv-batch nesthv-explore nesthv-fuzz nesthv-inputs nesthv-saved nesthv-qemu-run
 # Completion of zsh for nesthv and its tools. tools/install puts it into share/zsh/site-functions.
 
 local -a image
@@ -95,6 +95,58 @@ nesthv-batch)
         '--program[the program to take]:file:_files' \
         '--sshlogin[machines]:word:' \
         '1:folder:_files -/'
+    ;;
+nesthv-explore)
+    _arguments '--help[say what it does]' \
+        '--version[print the version]' \
+        '--try[the kinds of events]:kind:(timer input late wake reservation translations)' \
+        '--by[how far late moves the clock]:number:' \
+        '--twice[add a second event]' \
+        '--seed[choose the random steps]:number:' \
+        '--from[the first step]:number:' \
+        '--to[the step after the last]:number:' \
+        '--each[how many steps of a place]:number:' \
+        '--runs[how many trials]:number:' \
+        '--time[begin no trial after so long]:number:' \
+        '--shard[make a part of the trials]:part:' \
+        '--again[try kept findings alone]:folder:_files -/' \
+        '--verdict[ask for the exit number]' \
+        '--console[ask for the same console]' \
+        '--stops[ask that it stops]:number:' \
+        '--expect[ask for a text]:text:' \
+        '--expect-regex[ask for what fits]:text:' \
+        '--json[print JSON]' \
+        '--tap[print TAP]' \
+        '--junit[write JUnit XML]:file:_files' \
+        '--write[keep the findings]:folder:_files -/' \
+        '--elf[one more ELF file]:file:_files' \
+        '--program[the program to take]:file:_files' \
+        '--sshlogin[machines]:word:' \
+        '--steps[how many steps]:number:' \
+        '--blocks[blocks of RAM]:number:' \
+        '--spaces[spaces]:number:' \
+        '--entries[entries of a space]:number:' \
+        '--input[a file of inputs]:file:_files' \
+        '--device[give it the device page]' \
+        '1:configuration:_files' '2:guest:'
+    ;;
+nesthv-fuzz)
+    _arguments '--help[say what it does]' \
+        '--version[print the version]' \
+        '--write[where it is put]:folder:_files -/' \
+        '--at[from which step on it has inputs]:number:' \
+        '--most[how many steps a run has]:number:' \
+        '--time[end after so long]:number:' \
+        '--prepare[make the target alone]' \
+        '--show[say what comes of a file]:file:_files' \
+        '--program[the program to take]:file:_files' \
+        '--steps[how many steps]:number:' \
+        '--blocks[blocks of RAM]:number:' \
+        '--spaces[spaces]:number:' \
+        '--entries[entries of a space]:number:' \
+        '--input[a file of inputs]:file:_files' \
+        '--device[give it the device page]' \
+        '1:configuration:_files' '2:guest:' '3:corpus:_files -/'
     ;;
 nesthv-inputs)
     _arguments '--help[say what it does]' \

@@ -18,7 +18,7 @@ _start:
     csrsi   sstatus, 2          # SIE: an interrupt is taken as soon as it is there
 sleep:
     wfi                         # the clock goes on to the next tick or input
-    bnez    s0, sleep
+    bgtz    s0, sleep           # a tick between this and WFI is one that it sleeps past; the next one ends it
 stop:
     li      a7, 8               # call 8 stops the guest
     ecall

@@ -28,22 +28,24 @@ class Given(NamedTuple):
     made_of: str | None = None
 
 
-def add_options(parser: argparse.ArgumentParser) -> None:
-    """Adds the options that say how an ELF file or an image is run."""
+def add_options(parser: argparse.ArgumentParser, has_all: bool = True) -> None:
+    """Adds the options that say how an ELF file or an image is run. Unless all are wanted, --console and
+    --write, which mean something else to the tool, are left out."""
     group = parser.add_argument_group("for an ELF file or an image in place of CONFIG")
     group.add_argument("--steps", type=command_line.number(0, MOST_STEPS), metavar="N",
                        help=f"how many steps the guest gets; {DEFAULTS['steps']:,} if left out")
     group.add_argument("--blocks", type=command_line.number(1, faults.MOST_BLOCKS), metavar="N",
                        help="its RAM, in blocks of 2 MiB; if left out, as much as the file needs with 1 MiB "
                        f"for a stack, and at least {FEWEST_BLOCKS}")
-    for key, least, most in (("spaces", 1, 8), ("entries", 16, 256), ("console", 0, 1_048_576)):
+    for key, least, most in (("spaces", 1, 8), ("entries", 16, 256), ("console", 0, 1_048_576))[:2 + has_all]:
         group.add_argument(f"--{key}", type=command_line.number(least, most), metavar="N",
                            help=f"as in a configuration; {DEFAULTS[key]:,} if left out")
     group.add_argument("--input", metavar="FILE",
                        help=f"a file of inputs, as {places.sibling('inputs')} makes it")
     group.add_argument("--device", action="store_true", default=None, help="gives it the device page")
-    group.add_argument("--write", metavar="FOLDER",
-                       help="keeps the configuration, NAME.toml, and the image, NAME.bin, in this folder")
+    if has_all:
+        group.add_argument("--write", metavar="FOLDER",
+                           help="keeps the configuration, NAME.toml, and the image, NAME.bin, in this folder")
 
 
 def options_given(options: argparse.Namespace) -> list[str]:

@@ -7,10 +7,11 @@ from typing import NamedTuple
 from nesthv_tools import places, programs, versions
 
 # Each tool that is installed, by its script, and its command.
-TOOLS = ("run", "look", "debug", "profile", "batch", "inputs", "saved", "qemu-run")
+TOOLS = ("run", "look", "debug", "profile", "batch", "explore", "fuzz", "inputs", "saved",
+         "qemu-run")
 COMMANDS = {name: f"nesthv-{name}" for name in TOOLS}
 PROGRAMS = ("nesthv", "nesthv-gdb", "nesthv-trace")
-DATA = ("csrs.txt", "debug.gdb", "qemu.bin")  # files that tools read, beside their scripts
+DATA = ("csrs.txt", "debug.gdb", "fuzz_target.c", "qemu.bin")  # files that tools read, beside their scripts
 LIBRARY = os.path.join("lib", "nesthv", "tools")
 MANIFEST = os.path.join("lib", "nesthv", "FILES")
 MANUAL = os.path.join("share", "man", "man1")

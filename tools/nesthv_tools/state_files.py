@@ -48,15 +48,17 @@ class State(saves.Saved):
 
 def file_of(saved: saves.Saved, path: str) -> OwnFile:
     """A file that has this state: its own one, or a new one at this path."""
-    if not isinstance(saved, State) or saved.ram.pages:
+    if not isinstance(saved, State):
         with open(path, "wb") as file:
             file.write(saved.form())
         return OwnFile(path)
-    if saved.is_whole:
+    if saved.is_whole and not saved.ram.pages:
         return saved.file
     with open(path, "wb", buffering=0) as file, open(saved.file.path, "rb") as own:
         file.write(saved.head())
-        at, end = saved.front, saved.front + len(saved.ram)
+        front, at, end = file.tell(), saved.front, saved.front + len(saved.ram)
         while at < end:
             at += os.sendfile(file.fileno(), own.fileno(), at, end - at)
+        for page, data in saved.ram.pages.items():
+            os.pwrite(file.fileno(), data, front + page)
     return OwnFile(path)
