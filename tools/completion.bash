@@ -68,10 +68,17 @@ _nesthv_qemu_run() {
     _nesthv_files '--guest --traps --trace --gdb --seconds --plain --single --time --raw --cpu' "$2"
 }
 
+_nesthv_build() {
+    if [ "$3" = -o ] || ! _nesthv_words '-o -O0 -O2 -O3' "$2"; then
+        compopt -o filenames
+        mapfile -t COMPREPLY < <(compgen -d -- "$2"; compgen -f -X '!*.[csS]' -- "$2")
+    fi
+}
+
 _nesthv_batch() {
-    case $3 in --only | --jobs | --seconds | --sshlogin) return ;; esac
-    _nesthv_files '--only --jobs --seconds --first --store --verdict --times --tap --json --junit --program
-        --sshlogin' "$2"
+    case $3 in --only | --jobs | --seconds | --sshlogin | --steps | --blocks | --spaces | --entries | --console) return ;; esac
+    _nesthv_files "--only --jobs --seconds --first --store --verdict --times --tap --json --junit --program
+        --sshlogin $_nesthv_image" "$2"
 }
 
 # The options of an ELF file or an image, where --console and --write mean something else.
@@ -167,6 +174,7 @@ complete -F _nesthv_saved nesthv-saved tools/saved
 complete -F _nesthv_batch nesthv-batch tools/batch
 complete -F _nesthv_explore nesthv-explore tools/explore
 complete -F _nesthv_fuzz nesthv-fuzz tools/fuzz
+complete -F _nesthv_build nesthv-build tools/build
 complete -F _nesthv_debug nesthv-debug tools/debug
 complete -F _nesthv_profile nesthv-profile tools/profile
 complete -F _nesthv_gdb nesthv-gdb dist/nesthv-gdb

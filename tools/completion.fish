@@ -1,6 +1,11 @@
 # Completion of fish for nesthv and its tools. tools/install puts it into share/fish/vendor_completions.d.
 
 complete -c nesthv -n __fish_is_first_arg -f -a 'run replay check work save'
+complete -c nesthv -n 'not __fish_is_first_arg' -k -a '(__fish_complete_suffix .toml)'
+complete -c nesthv-gdb -n __fish_is_first_arg -k -a '(__fish_complete_suffix .toml)'
+complete -c nesthv-trace -n __fish_is_first_arg -k -a '(__fish_complete_suffix .toml)'
+complete -c nesthv-trace -n 'test (count (commandline -opc)) -eq 3' -f \
+    -a '(__fish_append , traps worlds calls fences fills stale steps counts)'
 
 complete -c nesthv-run -l help -d 'say what it does'
 complete -c nesthv-run -l program -r -d 'the program to take'
@@ -146,6 +151,18 @@ complete -c nesthv-batch -l json -d 'print JSON'
 complete -c nesthv-batch -l junit -r -d 'write JUnit XML'
 complete -c nesthv-batch -l program -r -d 'the program to take'
 complete -c nesthv-batch -l sshlogin -x -d 'machines'
+complete -c nesthv-batch -l steps -x -d 'how many steps'
+complete -c nesthv-batch -l blocks -x -d 'RAM in blocks of 2 MiB'
+complete -c nesthv-batch -l spaces -x -d 'spaces'
+complete -c nesthv-batch -l entries -x -d 'entries of a space'
+complete -c nesthv-batch -l console -x -d 'bytes of the console'
+complete -c nesthv-batch -l input -r -d 'a file of inputs'
+complete -c nesthv-batch -l device -d 'give it the device page'
+complete -c nesthv-batch -l write -r -d 'keep the files in this folder'
+
+complete -c nesthv-build -l help -d 'say what it does'
+complete -c nesthv-build -l version -d 'print the version'
+complete -c nesthv-build -s o -r -d 'another name of what is made'
 
 complete -c nesthv-inputs -l help -d 'say what it does'
 complete -c nesthv-inputs -l version -d 'print the version'

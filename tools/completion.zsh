@@ -1,5 +1,6 @@
-#compdef nesthv nesthv-gdb nesthv-trace nesthv-run nesthv-look nesthv-debug nesthv-profile nesthv-batch nesthv-explore nesthv-fuzz nesthv-inputs nesthv-saved nesthv-qemu-run
-# Completion of zsh for nesthv and its tools. tools/install puts it into share/zsh/site-functions.
+#compdef nesthv nesthv-gdb nesthv-trace nesthv-run nesthv-build nesthv-look nesthv-debug nesthv-profile nesthv-batch nesthv-explore nesthv-fuzz nesthv-inputs nesthv-saved nesthv-qemu-run
+# Completion of zsh for nesthv and its tools. tools/install puts it into share/zsh/site-functions; ~/.zshrc needs
+# `fpath=(~/.local/share/zsh/site-functions $fpath)` before `compinit` for that of ~/.local.
 
 local -a image
 image=(
@@ -94,7 +95,14 @@ nesthv-batch)
         '--junit[write JUnit XML]:file:_files' \
         '--program[the program to take]:file:_files' \
         '--sshlogin[machines]:word:' \
-        '1:folder:_files -/'
+        "${image[@]}" \
+        '*:folder or ELF file:_files'
+    ;;
+nesthv-build)
+    _arguments '--help[say what it does]' \
+        '--version[print the version]' \
+        '-o[another name of what is made]:file:_files' \
+        '*:source:_files -g "*.[csS]"'
     ;;
 nesthv-explore)
     _arguments '--help[say what it does]' \

@@ -51,7 +51,7 @@ class Exits:
             yield from lines_of(hgatp, causes)
             if hgatp in self.left:
                 step, cause = self.left[hgatp]
-                yield f"no way back in these steps: {words_of(cause)} at step {step}"
+                yield f"left when the log ends: {words_of(cause)} at step {step}"
 
 
 def words_of(cause: int) -> str:

@@ -45,7 +45,8 @@ def add_options(parser: argparse.ArgumentParser, has_all: bool = True) -> None:
     group.add_argument("--device", action="store_true", default=None, help="gives it the device page")
     if has_all:
         group.add_argument("--write", metavar="FOLDER",
-                           help="keeps the configuration, NAME.toml, and the image, NAME.bin, in this folder")
+                           help="keeps the configuration, NAME.toml, and the image, NAME.bin, in this folder; "
+                           f"{places.sibling('run')} then runs nothing")
 
 
 def options_given(options: argparse.Namespace) -> list[str]:

@@ -41,7 +41,7 @@ def notices_of(read: Callable[[int, int], bytes]) -> list[str]:
     wrong = code_paths.wrong_place(read)
     if wrong is None:
         return []
-    return [f"the code comes to {wrong:#x}, where there is compressed code, or none: {BUILD}"]
+    return [f"execution reaches compressed code, or none, at {wrong:#x}: {BUILD}"]
 
 
 def notices_of_bytes(image: bytes) -> list[str]:

@@ -1,13 +1,15 @@
 """What is installed, and where: the same files below a prefix for tools/install and for dist/package."""
+import contextlib
 import glob
 import os
+import subprocess
 from collections.abc import Iterator
 from typing import NamedTuple
 
 from nesthv_tools import places, programs, versions
 
 # Each tool that is installed, by its script, and its command.
-TOOLS = ("run", "look", "debug", "profile", "batch", "explore", "fuzz", "inputs", "saved",
+TOOLS = ("run", "build", "look", "debug", "profile", "batch", "explore", "fuzz", "inputs", "saved",
          "qemu-run")
 COMMANDS = {name: f"nesthv-{name}" for name in TOOLS}
 PROGRAMS = ("nesthv", "nesthv-gdb", "nesthv-trace")
@@ -17,6 +19,8 @@ MANIFEST = os.path.join("lib", "nesthv", "FILES")
 MANUAL = os.path.join("share", "man", "man1")
 BASH = os.path.join("share", "bash-completion", "completions")
 ZSH = os.path.join("share", "zsh", "site-functions")
+ZSH_OF_DEBIAN = os.path.join("share", "zsh", "vendor-completions")  # which zsh of Debian reads
+SCRIPTS = ("examples/run", "examples/check", "examples/words", "examples/build")  # of the repository alone
 FISH = os.path.join("share", "fish", "vendor_completions.d")
 
 
@@ -60,6 +64,32 @@ def tool_files() -> Iterator[File]:
         yield copied(path, os.path.join(LIBRARY, os.path.relpath(path, places.TOOLS)))
 
 
+def names_in(*patterns: str) -> list[str]:
+    """The files of the repository below these paths, by name: those that Git has, or without Git all that there
+    are."""
+    words = ["git", "ls-files", "-z", *patterns]
+    with contextlib.suppress(OSError):
+        ran = subprocess.run(words, cwd=places.TOP, stdin=subprocess.DEVNULL, capture_output=True)
+        if ran.returncode == 0 and ran.stdout:
+            return list(filter(None, ran.stdout.decode().split("\0")))
+    found = [path for pattern in patterns for path in glob.glob(os.path.join(places.TOP, pattern))]
+    return sorted(os.path.relpath(path, places.TOP) for each in found for path in files_below(each))
+
+
+def files_below(path: str) -> list[str]:
+    """A file, or those in a folder."""
+    if os.path.isfile(path):
+        return [path]
+    return [os.path.join(folder, name) for folder, _, names in os.walk(path) for name in names]
+
+
+def documents(*patterns: str) -> Iterator[File]:
+    """These files of the repository, as they are installed, but for its own scripts."""
+    for name in names_in(*patterns):
+        if name not in SCRIPTS:
+            yield copied(os.path.join(places.TOP, name), os.path.join(places.DOCUMENTS, name))
+
+
 def files(program: str) -> Iterator[File]:
     """Each file, where this is the path of the proved program."""
     yield copied(program, os.path.join("bin", "nesthv"))
@@ -76,6 +106,7 @@ def files(program: str) -> Iterator[File]:
     for shell, path in (("bash", os.path.join(BASH, "nesthv")), ("zsh", os.path.join(ZSH, "_nesthv")),
                         ("fish", os.path.join(FISH, "nesthv.fish"))):
         yield copied(os.path.join(places.TOOLS, f"completion.{shell}"), path)
+    yield from documents("examples")
 
 
 def links() -> Iterator[Link]:

@@ -8,12 +8,10 @@ import os
 import shutil
 import subprocess
 import tarfile
-from collections.abc import Iterator
 
 from nesthv_tools import command_line, endings, layout, places, programs, streams, versions, whole_files
 
 PAGES = ("README.md", "CHANGES.md", "CONTRIBUTING.md", "SECURITY.md", "docs/*.md", "docs/*.svg")
-LEFT_OUT = ("examples/run", "examples/check", "examples/words")  # scripts of the repository
 CONTROL = """Package: nesthv
 Version: {version}
 Section: otherosfs
@@ -29,15 +27,6 @@ Description: deterministic RISC-V simulator for hypervisors, proved
  files always give the same output, which is proved to be that of a written
  definition. Its tools look at a guest at any step, and let gdb go backwards.
 """
-
-
-def documents() -> Iterator[layout.File]:
-    """The pages and the examples, as far as Git has them."""
-    words = ["git", "ls-files", "-z", *PAGES, "examples"]
-    ran = subprocess.run(words, cwd=places.TOP, stdin=subprocess.DEVNULL, stdout=subprocess.PIPE, check=True)
-    for name in ran.stdout.decode().split("\0"):
-        if name and name not in LEFT_OUT:
-            yield layout.copied(os.path.join(places.TOP, name), os.path.join(places.DOCUMENTS, name))
 
 
 def folders_of(paths: list[str]) -> list[str]:
@@ -92,9 +81,14 @@ def put(root: str, files: list[layout.File], links: list[layout.Link], seconds: 
         os.utime(os.path.join(root, path), (seconds, seconds), follow_symlinks=False)
 
 
+def moved(path: str) -> str:
+    """Where Debian has what is installed at a path: its zsh reads completion elsewhere."""
+    return path.replace(layout.ZSH, layout.ZSH_OF_DEBIAN)
+
+
 def debian_package(version: str, files: list[layout.File], links: list[layout.Link], seconds: int) -> bytes:
     """A package of Debian, below /usr, made by dpkg-deb."""
-    files = sorted(file._replace(path=os.path.join("usr", file.path)) for file in files)
+    files = sorted(file._replace(path=os.path.join("usr", moved(file.path))) for file in files)
     links = [link._replace(path=os.path.join("usr", link.path)) for link in links]
     size = sum(-(-len(file.data) // 1024) for file in files)
     sums = "".join(f"{hashlib.md5(file.data).hexdigest()}  {file.path}\n" for file in files)
@@ -123,7 +117,7 @@ def main() -> int:
     if not program:
         streams.say("no proved program (see dist/check)")
         return 1
-    files, links = [*layout.files(program.path), *documents()], list(layout.links())
+    files, links = [*layout.files(program.path), *layout.documents(*PAGES)], list(layout.links())
     version, seconds = versions.version(), versions.seconds()
     name = f"nesthv-{version}-x86_64-linux"
     begin = layout.Link("README.md", os.path.join(places.DOCUMENTS, "README.md"))

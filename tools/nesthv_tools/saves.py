@@ -145,6 +145,7 @@ class Saved:
 
     def __init__(self, data: Bytes) -> None:
         reader = Reader(data)
+        demand(len(data) > 0, "the file is empty")
         self.letters = reader.take(8, "its letters")
         demand(self.letters in LETTERS, f"it does not begin with `{LETTERS[-1].decode()}`, or as an older "
               "version does, so `nesthv save` has not written it")

@@ -5,6 +5,7 @@ import signal
 import subprocess
 from xml.etree import ElementTree
 
+from elf_files import RAM, elf
 from helper import LETTER, LETTER_REPORT, LIMIT, LOOP, TOOLS, ToolTest, take_signals
 
 ENDLESS = "format = 1\nquantum = 4294967296\nrounds = 1000\n"
@@ -48,6 +49,23 @@ class BatchTest(ToolTest):
         self.assertEqual(self.lines_of(self.batch("--store"), 0), ["PASS a.toml stored", "# 1 of 1 passed"])
         self.assertFalse(self.exists("a.report.now"))
         self.assertEqual(self.lines_of(self.batch(), 0)[0], "PASS a.toml")
+
+    def test_elf_files(self):
+        """ELF files and images in place of a folder, with the options of tools/run."""
+        self.put("one.elf", elf())
+        self.put("loop.elf", elf((RAM, LOOP)))
+        self.put("one.report", LETTER_REPORT.replace(b"guest a", b"guest one"))
+        ran = self.tool("tools/batch", "one.elf", "a.bin", "loop.elf", "--steps", "99")
+        self.assertEqual(self.lines_of(ran, 1), [
+            "PASS one.elf", "PASS a.bin", "FAIL loop.elf not every guest has stopped", "# guest loop is running",
+            "# 2 of 3 passed"])
+        for words, said in ((["none.elf"], "none.elf: there is no such file"),
+                            (["kept", "--steps", "9"], "--steps is for ELF files and images, and kept is a folder"),
+                            (["kept/a.toml"], "kept/a.toml is not an ELF file or an image"),
+                            (["one.elf", "kept/../one.elf"], "would both be one.toml: rename one")):
+            ran = self.tool("tools/batch", *words)
+            self.check_plain(ran, 2)
+            self.check_said(ran, said)
 
     def test_no_stored_report(self):
         self.configure("kept/b.toml", image='"loop.bin"')

@@ -9,6 +9,27 @@ PUT = "li a7, 1\nli a0, {}\necall\n"
 STOP = "li a7, 8\necall\n"
 
 
+class FlagTest(ToolTest):
+    """What tools/build refuses, which needs no compiler."""
+
+    def test_bad_words(self):
+        self.put("a.s", STOP)
+        for words, said in ((["-march=rv64gc", "a.s"], "-march=rv64gc has floating point and compressed instructions, "
+                             "which a guest does not have"),
+                            (["-march=rv64imac_zba", "a.s"], "compressed instructions and the extension zba"),
+                            (["-march=rv32ima", "a.s"], "another width than 64 bits"),
+                            (["-mabi=lp64d", "a.s"], "-mabi=lp64d is not the ABI of a guest"),
+                            (["none.s"], "none.s: there is no such file"), (["a"], "a is not a source"),
+                            (["-o", "out", "a.s"], "-o out does not end in .elf")):
+            ran = self.tool("tools/build", *words)
+            self.check_plain(ran, 2)
+            self.check_said(ran, said)
+        ran = self.tool("tools/build", "a.s", variables={"CROSS": "none-"})
+        self.check_plain(ran, 2)
+        self.check_said(ran, "there is no none-gcc (apt-get install gcc-riscv64-linux-gnu)")
+        self.assertEqual(os.listdir(self.folder).count("a.elf"), 0)
+
+
 class BuildTest(ToolTest):
     def setUp(self):
         super().setUp()
@@ -29,6 +50,18 @@ class BuildTest(ToolTest):
         self.put("a.s", PUT.format(65) + STOP)
         self.assertEqual(self.built("a.s"), LETTER)
         self.assertTrue(os.path.isfile(os.path.join(self.folder, "a.elf")))
+
+    def test_folder_of_the_user(self):
+        """tools/build writes into the folder where one is, with the lines of the sources."""
+        self.put("deep er/b.s", PUT.format(65) + STOP)
+        self.check_plain(self.tool("tools/build", "-march=rv64ima", "deep er/b.s"), 0)
+        with open(os.path.join(self.folder, "b.bin"), "rb") as file:
+            self.assertEqual(file.read(), LETTER)
+        with open(os.path.join(self.folder, "b.elf"), "rb") as file:
+            self.assertIn(b".debug_line", file.read())
+        self.put("c.s", "none\n")
+        self.check_plain(self.tool("tools/build", "c.s"), 1)
+        self.assertFalse(os.path.exists(os.path.join(self.folder, "c.elf")))
 
     def test_files_beside_the_source(self):
         self.put("deep er/a.s", '.include "part.s"\nli a7, 8\necall\n.incbin "data"\n')

@@ -109,7 +109,7 @@ class EntryTest(ToolTest):
                    "-o", "a.elf"]
         subprocess.run(command, cwd=self.folder, check=True)
         subprocess.run([objcopy, "-O", "binary", "a.elf", "a.bin"], cwd=self.folder, check=True)
-        self.check_said(self.tool("tools/run", self.configure()), "where there is compressed code")
+        self.check_said(self.tool("tools/run", self.configure()), "execution reaches compressed code")
 
 
 class GuestTest(ToolTest):
@@ -117,13 +117,13 @@ class GuestTest(ToolTest):
         self.put("b.bin", LOOP)
         ran = self.tool("tools/run", self.configure(front=LONG, image='"b.bin"'))
         self.check_plain(ran, 0)
-        self.check_said(ran, "guest a put no byte and would go on")
-        self.check_said(ran, "a.toml last-trap")
+        self.check_said(ran, "guest a printed nothing and is still running")
+        self.check_said(ran, "a.toml doctor")
 
     def test_guest_that_waits(self):
         self.put("b.bin", struct.pack("<I", 0x10500073))  # wfi
         ran = self.tool("tools/run", self.configure(front=LONG, image='"b.bin"'))
-        self.check_said(ran, "guest a put no byte and waits for good")
+        self.check_said(ran, "guest a printed nothing and waits for good")
         self.check_said(ran, "a.toml at end")
 
     def test_guest_without_a_step(self):

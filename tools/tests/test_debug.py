@@ -116,12 +116,12 @@ class DebugTest(ToolTest):
         path = self.configure()
         for words, status, said in (
                 ([path, "5"], 2, "configuration fault 15 value 5: there is no guest 5: guests are numbered"),
-                (["none.toml"], 2, "the configuration none.toml cannot be read: there is no such file"),
+                (["none.toml"], 2, "none.toml: there is no such file"),
                 ([self.configure("b.toml", image='"none"')], 3, "read fault 2: the image "),
                 ([self.configure("c.toml", blocks=0)], 2, "`blocks` of guest 0 ('a') is 0"),
                 (["--gdb", "none", path], 2, "there is no none (apt-get install gdb-multiarch)"),
                 (["--stub", "none", path], 2, "none is not a program"),
-                (["nothing"], 2, "nothing is not a file, and not an example"),
+                (["nothing"], 2, "nothing: there is no such file, nor such an example"),
                 (["--print", "a.bin"], 2, "needs --write FOLDER")):
             ran = self.debug(*words)
             self.check_plain(ran, status)

@@ -91,7 +91,9 @@ class ElfTest(ToolTest):
         """As a linker places a file by -Ttext: its own headers are in the page below the code."""
         self.put("a.elf", with_headers(LETTER))
         ran = self.tool("tools/run", "a.elf", "--write", "kept")
-        self.assertEqual(ran.stdout, LETTER_REPORT)
+        self.assertEqual(ran.stdout, b"")
+        self.check_said(ran, "kept/a.toml is written: tools/run kept/a.toml runs it")
+        self.assertEqual(self.tool("tools/run", "kept/a.toml").stdout, LETTER_REPORT)
         with open(os.path.join(self.folder, "kept", "a.bin"), "rb") as file:
             self.assertEqual(file.read(), LETTER)
         self.put("b.elf", with_headers(LETTER, b"data"))

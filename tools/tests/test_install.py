@@ -62,6 +62,35 @@ class InstallTest(ToolTest):
         self.assertEqual(sorted(os.listdir(prefix)), ["bin"])
         self.assertTrue(os.path.exists(os.path.join(self.folder, "a.bin")))
 
+    def test_files_of_others(self):
+        """What no install has written stays, and nothing is installed then."""
+        prefix = os.path.join(self.folder, "prefix")
+        self.put("prefix/bin/nesthv-run", b"own")
+        ran = self.tool("tools/install", prefix)
+        self.check_plain(ran, 1)
+        self.check_said(ran, f"{prefix}/bin/nesthv-run is there, and is not of an install of nesthv")
+        self.assertEqual(self.found(prefix), ["bin/nesthv-run"])
+        os.remove(os.path.join(prefix, "bin/nesthv-run"))
+        shutil.copy(os.path.join(TOP, "dist", "nesthv"), self.put("prefix/bin/nesthv", b""))
+        self.check_plain(self.tool("tools/install", prefix), 0)
+
+    def test_examples(self):
+        """An example is found by its name, as in the repository."""
+        prefix = os.path.join(self.folder, "prefix")
+        self.check_plain(self.tool("tools/install", prefix), 0)
+        options = {"variables": {"NESTHV": ""}}
+        ran = self.tool(os.path.join(prefix, "bin", "nesthv-run"), "first", **options)
+        self.assertEqual((ran.returncode, ran.stdout), (0, LETTER_REPORT), ran.lines)
+        ran = self.tool(os.path.join(prefix, "bin", "nesthv-look"), "first", "at", "5", "--cache", self.folder, **options)
+        self.assertEqual((ran.returncode, ran.stdout[:7]), (0, b"a at st"), ran.lines)
+        ran = self.tool(os.path.join(prefix, "bin", "nesthv-debug"), "--print", "first", **options)
+        self.check_plain(ran, 0)
+        if shutil.which("riscv64-linux-gnu-gcc"):
+            source = os.path.join(prefix, places.DOCUMENTS, "examples", "c", "main.c")
+            self.check_plain(self.tool(os.path.join(prefix, "bin", "nesthv-build"), source, **options), 0)
+            ran = self.tool(os.path.join(prefix, "bin", "nesthv-run"), "main.elf", **options)
+            self.assertIn(b"cbf43926", ran.stdout)
+
     def test_files_that_are_installed_no_more(self):
         prefix = os.path.join(self.folder, "prefix")
         self.put("prefix/lib/nesthv/tools/old.py", b"")

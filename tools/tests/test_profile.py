@@ -77,13 +77,13 @@ EXITS = """exits of hgatp 8000100000080004 (Sv39x4, VMID 1, root 80004000)
 cause               exits      %  steps      %  mean  largest  at step
 ECALL from VS (10)      2  100.0      4  100.0   4.0        4        5
 all                     2  100.0      4  100.0   4.0        4        5
-no way back in these steps: ECALL from VS (10) at step 10
+left when the log ends: ECALL from VS (10) at step 10
 
 exits of hgatp 8000200000080008 (Sv39x4, VMID 2, root 80008000)
 cause                           exits      %  steps  %  mean  largest  at step
 supervisor timer interrupt (5)      1  100.0      0  -     -        -        -
 all                                 1  100.0      0  -     -        -        -
-no way back in these steps: supervisor timer interrupt (5) at step 8
+left when the log ends: supervisor timer interrupt (5) at step 8
 """
 OWN = "    .globl _start\n_start:\n    li a0, 1\n    j loop\nloop:\n    addi a0, a0, 1\n    j loop\nunused:\n    nop\n"
 NESTED = "    .globl kernel\nkernel:\n    nop\n    nop\nidle:\n    wfi\n    j idle\n    .rept 16\n    nop\n    .endr\n"
@@ -383,8 +383,8 @@ class FaultTest(ProfileTest):
                 (["--log", "run.log", "--callgrind", "out"], "run.log has no counts"),
                 (["--log", "/dev/null", "--timeline", "out"], "/dev/null has no event"),
                 (["--log", "a.bin", "--timeline", "out", "--svg", "out2"], "a.bin ends within line 1"),
-                (["--log", "run.log", "--exits", "none.toml"], "none.toml cannot be read: there is no such file"),
-                (["--log", "run.log", "--exits", "nothing"], "nothing is not a file, and not an example"),
+                (["--log", "run.log", "--exits", "none.toml"], "none.toml: there is no such file"),
+                (["--log", "run.log", "--exits", "nothing"], "nothing: there is no such file, nor such an example"),
                 (["--log", "run.log", "--svg", "none/out"], "none/out: No such file"),
                 (["--log", "run.log", "--svg", "out", "--columns", "0"], "argument --columns: 0 is not"),
                 (["--trace", "none", "--exits", self.configure()], "none is not a program"),

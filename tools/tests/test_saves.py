@@ -97,7 +97,7 @@ class FileTest(ToolTest):
     def test_wrong_files(self):
         entry = (1, 0x80000, 5)
         for data, words in (
-                (b"", "it has 0 bytes, and ends within its letters"),
+                (b"", "the file is empty"),
                 (LETTER, "so `nesthv save` has not written it"),
                 (form()[:-1], "2,097,151 bytes stand from offset 624 on, and RAM has 2,097,152: it is cut"),
                 (form() + b"\0", "it is too long"),

@@ -1,10 +1,11 @@
-"""Replays all configurations of a folder, as many at a time as there are processors, and compares each report
-with the stored one, `NAME.report` beside `NAME.toml`. Without one, each guest must have stopped, and its
-console must not end with a line `exit N` where N is not 0. A report that differs is kept beside the stored
-one as `NAME.report.now`. The last line sums up. The status is 0 where all pass, 1 where one fails, and 2
-where they cannot be run.
+"""Replays all configurations of a folder, or runs ELF files and images, as many at a time as there are
+processors, and compares each report with the stored one, `NAME.report` beside `NAME.toml` or `NAME.elf`.
+Without one, each guest must have stopped, and its console must not end with a line `exit N` where N is not 0.
+A report that differs is kept beside the stored one as `NAME.report.now`. The last line sums up. The status is
+0 where all pass, 1 where one fails, and 2 where they cannot be run.
 """
 import concurrent.futures
+import contextlib
 import fnmatch
 import json
 import os
@@ -17,9 +18,10 @@ from argparse import Namespace
 from collections.abc import Iterable, Iterator
 
 from nesthv_tools import (
-    children, command_line, faults, places, programs, reports, streams, terminal, verdicts, whole_files)
+    children, command_line, endings, faults, image_configurations, places, programs, reports, streams, terminal,
+    verdicts, whole_files)
 
-USAGE = "%(prog)s [OPTION]... FOLDER"
+USAGE = "%(prog)s [OPTION]... FOLDER\n       %(prog)s [OPTION]... FILE..."
 say = streams.say
 
 
@@ -68,13 +70,16 @@ class Running:
 
 
 class Batch:
-    """A folder of configurations, and how they are run."""
+    """A folder of configurations, and how they are run. Those that were made of other files have these beside their
+    reports, by the names of the configurations."""
 
-    def __init__(self, options: Namespace, program: programs.Program) -> None:
-        self.options, self.program, self.running = options, program, Running()
+    def __init__(self, options: Namespace, program: programs.Program, made_of: dict[str, str]) -> None:
+        self.options, self.program, self.running, self.made_of = options, program, Running(), made_of
         self.folder = os.path.abspath(options.folder)
 
     def path_of(self, name: str, end: str) -> str:
+        if name in self.made_of:
+            return os.path.splitext(os.path.abspath(self.made_of[name]))[0] + end
         return os.path.join(self.folder, name.removesuffix(".toml") + end)
 
     def call(self, name: str, *words: str) -> tuple[bytes, list[str], int | None]:
@@ -139,7 +144,7 @@ class Batch:
 
     def outcome_of(self, name: str) -> Outcome:
         if self.running.is_ended:
-            return Outcome(name, "LEFT")
+            return Outcome(self.made_of.get(name, name), "LEFT")
         begin = time.monotonic()
         is_run = self.options.store or self.options.verdict
         is_replay = not is_run and os.path.exists(self.path_of(name, ".report"))
@@ -147,9 +152,9 @@ class Batch:
             outcome = self.replay(name) if is_replay else self.run(name)
         except OSError as error:
             outcome = Outcome(name, "FAIL", f"{error.filename or self.program.path}: {error.strerror}")
-        outcome.taken = time.monotonic() - begin
+        outcome.taken, outcome.name = time.monotonic() - begin, self.made_of.get(name, name)
         if self.running.is_ended and outcome.kind != "PASS":
-            return Outcome(name, "LEFT")
+            return Outcome(outcome.name, "LEFT")
         if self.options.first and outcome.kind != "PASS":
             self.running.end()
         return outcome
@@ -224,8 +229,8 @@ def outcomes_of(batch: Batch, names: list[str], jobs: int) -> Iterator[Outcome]:
             raise
 
 
-def run_all(options: Namespace, program: programs.Program, names: list[str]) -> int:
-    batch, outcomes = Batch(options, program), []
+def run_all(options: Namespace, program: programs.Program, names: list[str], made_of: dict[str, str]) -> int:
+    batch, outcomes = Batch(options, program, made_of), []
     if options.tap:
         print(f"1..{len(names)}", flush=True)
     for number, outcome in enumerate(outcomes_of(batch, names, options.jobs or os.cpu_count() or 1), 1):
@@ -273,7 +278,8 @@ def glob_of(name: str) -> str:
 
 def options_of_words() -> Namespace:
     parser = command_line.Parser(__doc__, USAGE)
-    parser.add_argument("folder", metavar="FOLDER")
+    parser.add_argument("words", metavar="FOLDER | FILE", nargs="+",
+                        help="a folder of configurations, or ELF files and images")
     parser.add_argument("--only", action="append", metavar="PATTERN",
                         help="runs those whose NAME fits this pattern, such as `squares*`; may be given "
                         "again")
@@ -298,7 +304,11 @@ def options_of_words() -> Namespace:
     parser.add_argument("--sshlogin", action="append", default=[], metavar="LIST",
                         help="machines, as `parallel --sshlogin` takes them (`:` is this one). Each has this "
                         "repository and the folder at the same paths")
-    options = parser.parse_args()
+    image_configurations.add_options(parser)
+    options = parser.parse_intermixed_args()
+    options.is_folder = len(options.words) == 1 and os.path.isdir(options.words[0])
+    if not options.is_folder and options.sshlogin:
+        parser.error("--sshlogin is for a folder of configurations")
     if options.store and options.verdict:
         parser.error("--store and --verdict: give one")
     if options.sshlogin and (options.tap or options.json or options.junit or options.times):
@@ -318,9 +328,49 @@ def main() -> int:
         return 2
     if program.notice:
         say(f"{program.path} {program.notice}")
+    stack = contextlib.ExitStack()
+    try:
+        return run_words(options, program, stack)
+    except image_configurations.Wrong as why:
+        say(str(why))
+        return 2
+    finally:
+        stack.close()
+
+
+def run_words(options: Namespace, program: programs.Program, stack: contextlib.ExitStack) -> int:
+    """Runs the configurations of a folder, or those that are made of files."""
+    made_of: dict[str, str] = {}
+    if options.is_folder:
+        given = image_configurations.options_given(options)
+        if given:
+            raise image_configurations.Wrong(f"{given[0].split()[0]} is for ELF files and images, and "
+                                             f"{options.words[0]} is a folder of configurations")
+        options.folder = options.words[0]
+    else:
+        options.folder = options.write or stack.enter_context(endings.Folder("nesthv-"))
+        made_of = made_configurations(options)
     names = names_of(options)
+    if not options.is_folder:
+        names = [name for name in made_of if name in names]  # as they are given, and no others of the folder
     if not names:
         say(f"no `.toml` in {options.folder}"
             + (f" whose name fits {' or '.join(options.only)}" if options.only else ""))
         return 2
-    return run_elsewhere(options, names) if options.sshlogin else run_all(options, program, names)
+    return run_elsewhere(options, names) if options.sshlogin else run_all(options, program, names, made_of)
+
+
+def made_configurations(options: Namespace) -> dict[str, str]:
+    """Makes a configuration of each file in the folder, and tells of which."""
+    made_of: dict[str, str] = {}
+    for path in options.words:
+        if not os.path.exists(path):
+            raise image_configurations.Wrong(f"{path}: there is no such file")
+        if not image_configurations.is_image(path):
+            raise image_configurations.Wrong(f"{path} is not an ELF file or an image: name a folder of configurations")
+        name = image_configurations.name_of(path) + ".toml"
+        if name in made_of:
+            raise image_configurations.Wrong(f"{made_of[name]} and {path} would both be {name}: rename one")
+        image_configurations.written(image_configurations.files_of(path, options), options.folder)
+        made_of[name] = path
+    return made_of

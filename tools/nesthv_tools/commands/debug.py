@@ -17,7 +17,7 @@ from argparse import Namespace
 from typing import Any
 
 from nesthv_tools import (
-    command_line, debuggers, faults, image_configurations, programs, streams, stubs)
+    command_line, configurations, debuggers, faults, image_configurations, programs, streams, stubs)
 from nesthv_tools.commands import run
 
 USAGE = "%(prog)s [OPTION]... CONFIG [GUEST] [-- WORD...]"
@@ -111,8 +111,6 @@ def debug(options: Namespace, given: image_configurations.Given, stub: str) -> i
     path = given.path
     folder = run.folder_of(path)
     place = path if folder == "." else os.path.join(".", os.path.basename(path))
-    if not os.path.isfile(path):
-        raise Refused(f"the configuration {path} cannot be read{faults.unreadable(path)}")
     status = checked(stub, path, folder, place, options.guest)
     if status:
         return status
@@ -145,11 +143,9 @@ def main() -> int:
                           "names one")
         if not options.is_printed and not shutil.which(options.gdb):
             raise Refused(f"there is no {options.gdb} ({PACKAGE}); --gdb NAME takes another one for RISC-V")
-        path = run.configuration_of(options.config)
-        if path is None:
-            raise Refused(f"{options.config} is not a file, and not an example")
+        path = configurations.file_of(options.config)
         with image_configurations.opened(path, options) as given:
             return debug(options, given, stub)
-    except (Refused, image_configurations.Wrong) as why:
+    except (Refused, configurations.Unknown, image_configurations.Wrong) as why:
         streams.say(str(why))
         return UNUSABLE

@@ -1,15 +1,20 @@
 """Installs the proved program `nesthv`, the debugger `nesthv-gdb` and the log `nesthv-trace` where dist/ has
-them, and the tools: `nesthv-run`, which explains what the program says, `nesthv-look`, which looks at a guest
-at any step, `nesthv-debug`, which starts gdb, `nesthv-profile`, which shows a whole run, `nesthv-batch`,
-which runs many configurations, `nesthv-inputs`, which makes files of inputs, `nesthv-saved`, which shows
-files of saved guests, and `nesthv-qemu-run`, which runs a guest under QEMU; with man pages, and completion
-for bash, zsh and fish. With --uninstall it removes what it has installed.
+them, and the tools: `nesthv-run`, which explains what the program says, `nesthv-build`, which builds a guest,
+`nesthv-look`, which looks at a guest at any step, `nesthv-debug`, which starts gdb, `nesthv-profile`, which
+shows a whole run, `nesthv-batch`, which runs many configurations, `nesthv-inputs`, which makes files of
+inputs, `nesthv-saved`, which shows files of saved guests, and `nesthv-qemu-run`, which runs a guest under
+QEMU; with man pages, the examples, and completion for bash, zsh and fish. It writes over no file that it has
+not written. With --uninstall it removes what it has installed.
 """
 import contextlib
 import glob
 import os
 
 from nesthv_tools import command_line, layout, programs, streams, whole_files
+
+
+class Refused(Exception):
+    """Why nothing is installed, in words."""
 
 
 def made(prefix: str, path: str) -> str:
@@ -22,13 +27,36 @@ def made(prefix: str, path: str) -> str:
 def install(program: str, prefix: str) -> None:
     files, links = list(layout.files(program)), list(layout.links())
     paths = sorted(layout.paths_of(files, links))
-    stale = {*paths_installed(prefix), *modules_installed(prefix)} - set(paths)
-    manifest = layout.File(layout.MANIFEST, "".join(f"{path}\n" for path in paths).encode(), 0o644)
-    for file in [*files, manifest]:
+    known = {*paths_installed(prefix), *modules_installed(prefix)}
+    refuse_others(prefix, files, links, known)
+    write_manifest(prefix, sorted({*known, *paths}))  # so that an install that was interrupted is known
+    for file in files:
         whole_files.write(made(prefix, file.path), file.data, file.mode)
     for link in links:
         whole_files.link(link.target, made(prefix, link.path))
-    remove(prefix, sorted(stale))
+    remove(prefix, sorted(known - set(paths)))
+    write_manifest(prefix, paths)
+
+
+def write_manifest(prefix: str, paths: list[str]) -> None:
+    whole_files.write(made(prefix, layout.MANIFEST), "".join(f"{path}\n" for path in paths).encode(), 0o644)
+
+
+def refuse_others(prefix: str, files: list[layout.File], links: list[layout.Link], known: set[str]) -> None:
+    """Refuses to write over what no install has written, unless it is the same."""
+    wanted: dict[str, bytes | str] = {each.path: each.data for each in files}
+    wanted.update((each.path, each.target) for each in links)
+    for path, content in wanted.items():
+        whole = os.path.join(prefix, path)
+        if os.path.lexists(whole) and path not in known and content_of(whole) != content:
+            raise Refused(f"{whole} is there, and is not of an install of nesthv: move it away, or name another PREFIX")
+
+
+def content_of(path: str) -> bytes | str | None:
+    """The bytes of a file, or what a link names; nothing where there is something else."""
+    if os.path.islink(path):
+        return os.readlink(path)
+    return layout.bytes_at(path) if os.path.isfile(path) else None
 
 
 def paths_installed(prefix: str) -> list[str]:
@@ -87,7 +115,11 @@ def main() -> int:
         streams.say("no proved program (see dist/check); `rt all check` and `rt run` in crates/nesthv make "
                     "it")
         return 1
-    install(program.path, prefix)
+    try:
+        install(program.path, prefix)
+    except Refused as why:
+        streams.say(str(why))
+        return 1
     print(f"installed in {prefix}, from {program.path}"
           + (f", which {program.notice}" if program.notice else ""))
     folder = os.path.join(prefix, "bin")

@@ -48,9 +48,9 @@ from collections.abc import Callable, Iterator
 from typing import NamedTuple
 
 from nesthv_tools import (
-    command_line, faults, guest_runs, image_configurations, logged_bytes, logged_traps, presentation, programs,
-    registers, reports, saves, searches, sessions, shown_traps, state_cache, state_changes, streams,
-    trap_causes, walks, whole_files)
+    command_line, configurations, faults, guest_runs, image_configurations, logged_bytes, logged_traps,
+    presentation, programs, registers, reports, saves, searches, sessions, shown_traps, state_cache,
+    state_changes, streams, trap_causes, walks, whole_files)
 from nesthv_tools.sessions import Session
 
 USAGE = "%(prog)s [OPTION]... CONFIG [GUEST] COMMAND [WORD]..."
@@ -377,7 +377,8 @@ def show_diff(session: Session, words: list[str]) -> int:
     """Compares two runs, but not the RAM that differs from the start on, sizes, whether there is a device
     page, and cached translations."""
     number = sessions.number_of(words[1], "number of a guest") if len(words) == 2 else 0
-    with image_configurations.opened(words[0], session.options, is_second=True) as given:
+    path = configurations.file_of(words[0])
+    with image_configurations.opened(path, session.options, is_second=True) as given:
         other = sessions.Session(session.options, session.program, given.path, number)
         try:
             return compare(session, other)
@@ -438,13 +439,14 @@ def main() -> int:
         program = programs.found(options.program)
         if not program:
             raise sessions.Bad("there is no program: `--program PATH` or NESTHV names one")
-        with image_configurations.opened(config, options) as given:
+        with image_configurations.opened(configurations.file_of(config), options) as given:
             names = faults.image_names(faults.parsed(faults.text_of(given.path))[0])
             image_configurations.refuse_elf_images(os.path.dirname(given.path), names)
             session = sessions.Session(options, program, given.path, guest, given.made_of)
             session.runs.goes_back = command not in OF_ONE_STATE
             return COMMANDS[command](session, words)
-    except (sessions.Bad, guest_runs.Unusable, programs.Unusable, image_configurations.Wrong) as why:
+    except (sessions.Bad, guest_runs.Unusable, programs.Unusable, configurations.Unknown,
+            image_configurations.Wrong) as why:
         say(str(why))
         return 2
     finally:

@@ -18,7 +18,7 @@ from collections.abc import Iterator
 from typing import BinaryIO, NamedTuple
 
 from nesthv_tools import (
-    code_places, command_line, debuggers, event_logs, faults, image_configurations, profiles,
+    code_places, command_line, configurations, debuggers, event_logs, faults, image_configurations, profiles,
     programs, streams, timeline_drawing, tracers)
 from nesthv_tools.code_places import Code
 from nesthv_tools.commands import debug, run
@@ -208,15 +208,10 @@ def main() -> int:
     try:
         if not options.config:
             return show(options, None)
-        path = run.configuration_of(options.config)
-        if path is None:
-            raise profiles.Refused(f"{options.config} is not a file, and not an example")
-        options.config = path
-        if not os.path.isfile(path):
-            raise profiles.Refused(f"the configuration {path} cannot be read{faults.unreadable(path)}")
+        options.config = path = configurations.file_of(options.config)
         with image_configurations.opened(path, options) as given:
             return show(options, given)
     except (profiles.Refused, tracers.Refused, event_logs.Wrong, code_places.Failed,
-            image_configurations.Wrong) as why:
+            configurations.Unknown, image_configurations.Wrong) as why:
         streams.say(str(why))
         return 2

@@ -12,8 +12,8 @@ from argparse import Namespace
 from collections.abc import Iterable
 
 from nesthv_tools import (
-    children, command_line, faults, image_configurations, images, places, programs, progress, reports,
-    streams, terminal, verdicts, versions)
+    children, command_line, configurations, faults, image_configurations, images, places, programs, progress,
+    reports, streams, terminal, verdicts, versions)
 
 Sections = list[reports.Section] | None
 
@@ -27,14 +27,8 @@ TAKES = {"replay": "CONFIG and REPORT", "save": "CONFIG and GUEST, a number from
 say = streams.say
 
 
-def example_names() -> list[str]:
-    names = os.listdir(places.EXAMPLES) if os.path.isdir(places.EXAMPLES) else []
-    return sorted(name for name in names
-                  if os.path.isfile(os.path.join(places.EXAMPLES, name, name + ".bin")))
-
-
 def parser_of_words() -> command_line.Parser:
-    names = example_names()
+    names = configurations.example_names()
     which = f", or the name of an example ({', '.join(names)})" if names else ""
     parser = command_line.Parser(__doc__, USAGE, tells_version=False)
     parser.add_argument("words", metavar="WORD", nargs="*",
@@ -118,23 +112,6 @@ def check_save(parser: command_line.Parser, options: Namespace) -> None:
                      "file, by `>FILE`")
 
 
-def configuration_of(name: str) -> str | None:
-    """The path of the configuration that a word names, or none."""
-    if name in example_names():
-        return os.path.join(places.EXAMPLES, name, name + ".toml")
-    return name if name.endswith(".toml") or os.path.exists(name) else None
-
-
-def why_no_configuration(name: str) -> str:
-    """What is wrong with a word that names no configuration."""
-    maker = os.path.join(places.EXAMPLES, name, "make")
-    if os.path.isfile(maker):
-        return f"{name} has no image here: {os.path.relpath(maker)} builds it, in a folder of yours"
-    names = example_names()
-    examples = f", nor such an example: {', '.join(names)} are" if names else ""
-    return f"{name}: there is no such file{examples}"
-
-
 def folder_of(path: str) -> str:
     """The folder in which the program runs: the one of the configuration, or this one where the configuration
     is not a regular file."""
@@ -204,7 +181,7 @@ def unexpected(expected: str, status: int, sections: Sections) -> list[str]:
 
 
 def tell_of_silence(path: str, sections: list[reports.Section], document: faults.Table | None) -> None:
-    """Says what to do next of each guest that put no byte and has not stopped."""
+    """Says what to do next of each guest that printed nothing and has not stopped."""
     guests = faults.guests_of(document)
     for number, each in enumerate(sections):
         if each["status"] == "stopped" or each["bytes"]:
@@ -213,13 +190,13 @@ def tell_of_silence(path: str, sections: list[reports.Section], document: faults
             continue
         look = f"{places.sibling('look')} {path}" + (f" {number}" if number else "")
         if each["status"] == "waiting":
-            say(f"guest {each['name']} put no byte and waits for good: `{look} at end` shows what is pending")
+            say(f"guest {each['name']} printed nothing and waits for good: `{look} at end` shows what is pending")
         elif each["steps"] == 0:
             say(f"guest {each['name']} made no step: raise `quantum` and `rounds`, or give it a turn in "
                 "`turns`")
         else:
-            say(f"guest {each['name']} put no byte and would go on: give it more steps, or find out why it "
-                f"hangs, by `{look} last-trap`")
+            say(f"guest {each['name']} printed nothing and is still running: give it more steps, or find out why "
+                f"it hangs, by `{look} doctor`")
 
 
 def tell_of_difference(options: Namespace, program: programs.Program, place: str, folder: str) -> None:
@@ -275,15 +252,21 @@ def main() -> int:
         if options.version:
             streams.write(versions.text_of(program).encode())
             return 0
-        path = configuration_of(options.config)
-        if path is None:
-            say(why_no_configuration(options.config))
-            return UNUSABLE
+        path = configurations.path_of(options.config)
+        if options.write and options.command == "run" and image_configurations.is_image(path):
+            return write_configuration(options, path)
         with image_configurations.opened(path, options) as given:
             return run_given(options, given, program)
-    except (programs.Unusable, image_configurations.Wrong) as error:
+    except (programs.Unusable, configurations.Unknown, image_configurations.Wrong) as error:
         say(str(error))
         return UNUSABLE
+
+
+def write_configuration(options: Namespace, path: str) -> int:
+    """Makes a configuration of the ELF file or image at this path, and runs nothing."""
+    made = image_configurations.written(image_configurations.files_of(path, options), options.write)
+    say(f"{made} is written: {places.sibling('run')} {made} runs it")
+    return 0
 
 
 def verdict_of(status: int, sections: Sections) -> int:
