@@ -19,10 +19,10 @@ import sys
 from argparse import ArgumentTypeError, Namespace
 
 from nesthv_tools import (
-    code_places, command_line, elf_images, explored_events, explored_runs, faults, guest_runs,
+    code_places, command_line, configurations, elf_images, explored_events, explored_runs, guest_runs,
     image_configurations, places, programs, sessions, state_cache, streams, terminal, trial_findings,
     whole_files)
-from nesthv_tools.commands import batch, look, run
+from nesthv_tools.commands import batch, look
 from nesthv_tools.trial_findings import Finding
 
 USAGE = "%(prog)s [OPTION]... CONFIG [GUEST]"
@@ -204,12 +204,12 @@ def summary(explorer: explored_runs.Explorer, options: Namespace, found: list[Fi
     return f"{len(found)} found; trials: {tried}; {explorer.share()}{rest}"
 
 
-def explore(options: Namespace, path: str) -> int:
+def explore(options: Namespace, given: image_configurations.Given) -> int:
     program = programs.found(options.program)
     if not program:
         raise sessions.Bad("there is no proved program (see dist/check)")
     again = trial_findings.kept_in(options.again) if options.again else []
-    session = sessions.Session(options, program, path, options.guest)
+    session = sessions.Session(options, program, given.path, options.guest, given.made_of)
     with contextlib.closing(session):
         if not session.runs.tracer:
             raise sessions.Bad("trials go by the log of nesthv-trace, which does not stand beside "
@@ -247,16 +247,12 @@ def explore_elsewhere(options: Namespace) -> int:
 def main() -> int:
     options = options_of_words()
     try:
-        path = run.configuration_of(options.config)
-        if path is None or not os.path.isfile(path):
-            raise sessions.Bad(f"the configuration {options.config} cannot be read"
-                               f"{faults.unreadable(path or options.config)}")
-        options.path = path
+        options.path = path = configurations.file_of(options.config)
         if options.sshlogin:
             return explore_elsewhere(options)
         with image_configurations.opened(path, image_options(options)) as given:
-            return explore(options, given.path)
+            return explore(options, given)
     except (sessions.Bad, guest_runs.Unusable, programs.Unusable, trial_findings.Bad, code_places.Failed,
-            image_configurations.Wrong) as why:
+            configurations.Unknown, image_configurations.Wrong) as why:
         streams.say(str(why))
         return 2

@@ -17,9 +17,9 @@ import sys
 from argparse import Namespace
 
 from nesthv_tools import (
-    children, command_line, fuzzed_inputs, guest_runs, image_configurations, places, programs, sessions,
-    state_cache, streams, whole_files)
-from nesthv_tools.commands import look, run
+    children, command_line, configurations, fuzzed_inputs, guest_runs, image_configurations, places, programs,
+    sessions, state_cache, streams, whole_files)
+from nesthv_tools.commands import look
 from nesthv_tools.fuzzed_inputs import Bad, Fuzzed
 
 USAGE = "%(prog)s [OPTION]... CONFIG GUEST CORPUS [-- WORD...]"
@@ -160,17 +160,16 @@ def main() -> int:
     try:
         if not (options.prepare or options.show):
             needed("afl-fuzz", "afl++")
-        path = run.configuration_of(options.config)
-        if path is None or not os.path.isfile(path):
-            raise Bad(f"the configuration {options.config} cannot be read")
+        path = configurations.file_of(options.config)
         program = programs.found(options.program)
         if not program:
             raise Bad("there is no proved program (see dist/check)")
         given_options = Namespace(**{**vars(options), "console": None, "write": None})
         with image_configurations.opened(path, given_options) as given:
-            session = sessions.Session(options, program, given.path, options.guest)
+            session = sessions.Session(options, program, given.path, options.guest, given.made_of)
             with contextlib.closing(session):
                 return prepared(options, session)
-    except (Bad, sessions.Bad, guest_runs.Unusable, programs.Unusable, image_configurations.Wrong) as why:
+    except (Bad, sessions.Bad, guest_runs.Unusable, programs.Unusable, configurations.Unknown,
+            image_configurations.Wrong) as why:
         streams.say(str(why))
         return 2
