@@ -118,7 +118,7 @@ class FindingsTest(ToolTest):
         self.check_said(ran, "step 50000 is not in the run, which goes from 0 to 49")
 
     def test_bad_words(self):
-        for words, said in ((("--try", "timre"), "timre is not a kind (did you mean `timer`?)"),
+        for words, said in ((("--try", "timre"), "timre is not a kind: timer, input,"),
                             (("--shard", "3/2"), "3/2 is not I/N"),
                             (("--expect-regex", "("), "( is not a regular expression"),
                             (("--from", "3", "--to", "2"), "--to is 2, which is before --from, 3")):
