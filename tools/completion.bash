@@ -147,12 +147,12 @@ _nesthv_look() {
     --as) mapfile -t COMPREPLY < <(compgen -W 'HS U VS VU' -- "$2") && return ;;
     --step) mapfile -t COMPREPLY < <(compgen -W 'end' -- "$2") && return ;;
     --cache) compopt -o filenames && mapfile -t COMPREPLY < <(compgen -d -- "$2") && return ;;
-    --most | --cache-size) return ;;
+    --most | --cache-size | --time) return ;;
     first) mapfile -t COMPREPLY < <(compgen -W 'console status clock memory' -- "$2") && return ;;
     status) mapfile -t COMPREPLY < <(compgen -W 'waiting stopped' -- "$2") && return ;;
     esac
     if [[ $2 == -* ]]; then
-        _nesthv_words "--as --step --svg --most --first --elf --json --program --cache --cache-size
+        _nesthv_words "--as --step --svg --most --first --strict --time --elf --json --program --cache --cache-size
             $_nesthv_image" "$2"
         return
     fi

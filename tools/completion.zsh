@@ -43,6 +43,8 @@ nesthv-look)
         '--svg[draw maps into this file]:file:_files' \
         '--most[at how many steps fences drops]:word:' \
         '--first[end fences with the first finding]' \
+        '--strict[tell what hardware may use]' \
+        '--time[seconds that doctor may take]:number:' \
         '--elf[one more ELF file with symbols]:file:_files' \
         '--json[print JSON]' \
         '--program[the program to take]:file:_files' \

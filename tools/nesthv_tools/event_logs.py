@@ -24,7 +24,7 @@ FORMS = {
             f"(?: gpa (?P<gpa>{OPTIONAL}) gva [01] htinst (?P<htinst>{HEX}))?",
     "enter": f"hgatp (?P<hgatp>{HEX}) vsatp {HEX}",
     "leave": f"hgatp (?P<hgatp>{HEX}) vsatp {HEX} {CAUSE}",
-    "call": f"number (?P<call>{DECIMAL}) a0 (?P<argument>{HEX}) answer {OPTIONAL}",
+    "call": f"number (?P<call>{DECIMAL}) a0 (?P<argument>{HEX}) answer (?P<answer>{OPTIONAL})",
     "put": "[0-9a-f]{1,2}",
     "got": "(?P<byte>[0-9a-f]{1,2})",
     "wait": f"until (?:never|{DECIMAL})",

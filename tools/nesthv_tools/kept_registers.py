@@ -9,6 +9,7 @@ from nesthv_tools import (
 from nesthv_tools.state_changes import Change, Trap
 
 CALLS = (8, 10)  # causes of calls
+NO_TARGET = (0x23, 0x63)  # opcodes of stores and branches
 # What a hypervisor sets as it likes.
 SET = ("hedeleg", "hideleg", "hie", "hvip", "hcounteren", "henvcfg", "htimedelta")
 # What changes where it has the guest's guest take a trap.
@@ -17,9 +18,11 @@ NAMES = tuple(name for name in (*visits.SEEN, "hgatp") if name in stubs.CSRS)
 
 
 class Left(NamedTuple):
-    """How a guest's guest was left: the last state with V = 1, and the trap."""
+    """How a guest's guest was left: the last state with V = 1, the trap, and the word of the instruction, or none
+    where it is not known."""
     state: registers_at.State
     trap: Trap | None
+    word: int | None = None
 
 
 class Entry(NamedTuple):
@@ -99,7 +102,8 @@ def lost(runs: guest_runs.Runs, entry: Entry) -> list[Change]:
     changes = [each for each in entry.changes() if each.name not in permitted]
     general = [each.name for each in changes if each.name in registers.INTEGER]
     if is_made and general:
-        made = general if len(general) == 1 else target_at(runs, before.numbers["steps"])
+        made = target_of(entry.left.word) if entry.left.word is not None else \
+            general if len(general) == 1 else target_at(runs, before.numbers["steps"])
         changes = [each for each in changes if each.name not in made]
     return changes
 
@@ -107,4 +111,9 @@ def lost(runs: guest_runs.Runs, entry: Entry) -> list[Change]:
 def target_at(runs: guest_runs.Runs, step: int) -> Iterable[str]:
     """The register that the next instruction of the state at a step writes."""
     word, _, _ = walks.fetched(runs.at(step))
-    return () if word is None else (registers.INTEGER[word >> 7 & 31],)
+    return () if word is None else target_of(word)
+
+
+def target_of(word: int) -> Iterable[str]:
+    """The register that an instruction writes, if it does."""
+    return () if word & 0x7F in NO_TARGET else (registers.INTEGER[word >> 7 & 31],)

@@ -1,7 +1,8 @@
 """Why a trap was taken, as far as the states up to it say."""
+import re
 from collections.abc import Callable, Iterator
 
-from nesthv_tools import csrs, logged_timer, registers, registers_at, saves, searches, walks
+from nesthv_tools import csr_effects, csrs, logged_timer, registers, registers_at, saves, searches, walks
 from nesthv_tools.sessions import Session
 from nesthv_tools.state_changes import Trap
 
@@ -22,6 +23,24 @@ TIME, SATP = csrs.NUMBERS["time"], csrs.NUMBERS["satp"]
 WFI, SRET = 0x10500073, 0x10200073
 VTVM, VTW, VTSR = 1 << 20, 1 << 21, 1 << 22
 ACCESSES = {1: walks.FETCH, 5: walks.LOAD, 7: walks.STORE}  # by the code of an access fault
+MRET = 0x30200073
+NAMES = {**csr_effects.NAMES, 0x001: "fflags", 0x002: "frm", 0x003: "fcsr", 0x10C: "sstateen0", 0x14D: "stimecmp",
+         0x24D: "vstimecmp", 0x301: "misa", 0x302: "medeleg", 0x303: "mideleg", 0x304: "mie", 0x305: "mtvec",
+         0x306: "mcounteren", 0x30A: "menvcfg", 0x340: "mscratch", 0x341: "mepc", 0x342: "mcause", 0x343: "mtval",
+         0x344: "mip", 0x3A0: "pmpcfg0", 0x3B0: "pmpaddr0", 0x60C: "hstateen0", 0xC02: "instret", 0xF11: "mvendorid",
+         0xF12: "marchid", 0xF13: "mimpid"}
+EXTENSIONS = {0x10: "base", 0x54494D45: "TIME", 0x735049: "IPI", 0x52464E43: "RFENCE", 0x48534D: "HSM",
+              0x53525354: "SRST", 0x4442434E: "DBCN", 0x504D55: "PMU", 0x4E41434C: "NACL"}
+CALL_0 = ": call 0 sets the timer"
+INSTEAD = {0xF14: ": there is one hart, of number 0", 0x14D: CALL_0, 0x24D: ": a hypervisor sets hvip.VSTIP",
+           0x304: ": sie enables interrupts", 0x305: ": stvec has the handler", 0xC00: ": time counts steps",
+           0xC02: ": time counts steps"}
+CONSOLE = "call 1 puts a byte, and so does the device page of a guest that has it"
+DEVICES = [(0x10000000, 0x1000, "a UART", CONSOLE), (0x09000000, 0x1000, "a UART", CONSOLE),
+           (0x02000000, 0x10000, "the CLINT", "time is the clock, and call 0 sets the timer"),
+           (0x0C000000, 0x4000000, "the PLIC", "inputs are interrupt 9, and call 2 reads them"),
+           (0x00100000, 0x1000, "a register that ends the machine", "call 8 stops it"),
+           (0x10001000, 0x8000, "virtio devices", "there are none")]
 FLOATING = (0x07, 0x27, 0x43, 0x47, 0x4B, 0x4F, 0x53)
 
 
@@ -56,14 +75,44 @@ def why_illegal(word: int, mode: str) -> str:
         return "its low half is a compressed instruction"
     if word & 0x7F in FLOATING:
         return "it is of floating point"
+    if word == MRET:
+        return "MRET is of M-mode, which there is not: a guest starts in HS"
+    if word & 0x7F == 0x73 and word >> 12 & 3:
+        return why_no_csr(word >> 20, mode)
     return "U may not make it" if word & 0x7F == 0x73 and mode == "U" else ""
 
 
+def why_no_csr(number: int, mode: str) -> str:
+    """Why there is no register of a number in a mode, in words."""
+    name = NAMES.get(number, f"register {number:03x}")
+    if number >> 8 & 3 == 3:
+        return f"{name} is of M-mode, which there is not" + INSTEAD.get(number, "")
+    if number >> 8 & 3 == 0 and number < 4:
+        return f"{name} is of floating point, which there is not"
+    if number in csrs.NUMBERS.values() and mode in ("U", "VU"):
+        return f"{mode} may not reach {name}"
+    return f"there is no {name} here{INSTEAD.get(number, '')}"
+
+
+def why_place(address: int) -> str:
+    """What other machines have at a physical address, and what is here in place of it, or nothing."""
+    if address < 4096:
+        return f"{address:x} is where a pointer of 0 leads, and there is no memory"
+    return next((f"{address:x} is where many machines have {what}: here {instead}"
+                 for low, size, what, instead in DEVICES if low <= address < low + size), "")
+
+
 def why_no_access(saved: saves.Saved, word: int | None, trap: Trap) -> str:
-    """Why an access is a fault that leads to the device page of a guest that has it, in words, or nothing."""
+    """Why an access is a fault that leads to the device page of a guest that has it, or to no memory, in words, or
+    nothing."""
     view = walks.view_of_access(saved, word)
     answer = walks.Translation(view, trap["tval"]).answers[ACCESSES[trap["cause"]]]
-    return "" if answer.device is None else "the device page serves a load and a store of 1 byte at offset " \
+    if answer.device is None:
+        reached = re.match("([0-9a-f]+) is not in RAM", answer.wrong)
+        why = why_place(int(reached[1], 16)) if reached else ""
+        is_bare = saved.mode()[0] == "V" and not saved.numbers["hgatp"]
+        return "hgatp is 0, so guest physical addresses are physical ones" if is_bare else why
+    return "the device page serves a load and a store of 1 byte at offset " \
         "0, and a load of 8 bytes at offset 8: any other access is an access fault"
 
 

@@ -257,14 +257,18 @@ class DeviceTest(unittest.TestCase):
         self.assertFalse([line for line in lines if "device" in line])
 
     def test_reasons(self):
-        """Why an access to the page is a fault: that of a guest without it is one outside memory."""
+        """Why an access to the page is a fault: that of a guest without it is one outside memory, and it is said what
+        other machines have there."""
         trap = {"cause": 5, "tval": 0x10000000, "to": "HS"}
         words = "the device page serves a load and a store of 1 byte at offset 0, and a load of 8 bytes at " \
             "offset 8: any other access is an access fault"
-        for numbers, changes, said in (({"device": 1}, {}, [words]), ({}, {}, []),
+        uart = "10000000 is where many machines have a UART: here call 1 puts a byte, and so does the device page of a " \
+            "guest that has it"
+        for numbers, changes, said in (({"device": 1}, {}, [words]), ({}, {}, [uart]), ({}, {"tval": 0x40000000}, []),
                                        ({"device": 1}, {"cause": 7, "tval": 0x10000FFF}, [words]),
                                        ({"device": 1}, {"cause": 1}, [words]),
-                                       ({"device": 1}, {"tval": 0x10001000}, [])):
+                                       ({"device": 1}, {"tval": 0x10001000},
+                                        ["10001000 is where many machines have virtio devices: here there are none"])):
             found = trap_causes.reasons_of(None, saved_of(**numbers), 0x0002A303, {**trap, **changes})
             self.assertEqual(found, said)
         saved = saved_of(device=1, words=self.LEAF, mode=2, held=[(HGATP, [])])

@@ -23,8 +23,9 @@ commands:
                      `!` marks what an exit that is not a call should have left
   diff CONFIG2 [GUEST2]
                      a state in which two runs differ that were the same before it, and in what
-  fences [FROM TO]   whether the report rests on a translation that the guest should have fenced
-  doctor             looks for faults by itself, and tells what it finds, the worst first
+  fences [FROM TO]   whether the report rests on a translation that the guest should have fenced; with --strict
+                     which ones hardware may use, by the standard, though this machine does not
+  doctor             looks for faults by itself, and tells what it finds, the worst first; --time says for how long
 
 where to begin, by what the report says:
   you do not know                doctor
@@ -90,6 +91,11 @@ def options_of_words() -> Namespace:
     parser.add_argument("--most", type=command_line.number(0, 1000000), default=0, metavar="N",
                         help="at how many steps `fences` drops translations; at all if left out, or 0")
     parser.add_argument("--first", action="store_true", help="`fences` ends with the first that it finds")
+    parser.add_argument("--strict", action="store_true",
+                        help="`fences` tells of translations that hardware may use, and this machine does not")
+    parser.add_argument("--time", type=command_line.number(1, 100000), default=30, metavar="SECONDS",
+                        help="about how long `doctor` may look at the run, in seconds of the processor; "
+                        "%(default)s if left out")
     parser.add_argument("--elf", metavar="FILE", action="append", default=[],
                         help="one more ELF file with symbols, as of a nested kernel")
     parser.add_argument("--json", action="store_true",
@@ -415,7 +421,10 @@ def compare(session: Session, other: Session) -> int:
 
 
 def show_fences(session: Session, words: list[str]) -> int:
-    """Says whether dropped translations change the report, and where."""
+    """Says whether dropped translations change the report, and where; with --strict what hardware may use."""
+    if session.options.strict:
+        from nesthv_tools import strict_fences
+        return strict_fences.shown(session, *span_of(session, words))
     from nesthv_tools import fences
     return fences.shown(session, *span_of(session, words))
 
