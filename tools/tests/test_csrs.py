@@ -42,7 +42,7 @@ class CsrTest(unittest.TestCase):
         for path in filter(os.path.isfile, paths):
             with open(path, encoding="utf-8", errors="ignore") as file:
                 text = file.read()
-            self.assertIsNone(re.search(r"\bcsr[rwsc]+i?\b[^;\n]*\b0x[0-9a-f]{3}\b", text), path)
+            self.assertIsNone(re.search(r"\bcsr[rwsc]+i?\b[^;\n\\]*\b0x[0-9a-f]{3}\b", text), path)
             found = re.findall(r'\b([a-z]+)"?,? *[=:] *0x([0-9a-f]{3})\b', text, re.I)
             pairs = [(name, number) for name, number in found if csrs.NUMBERS.get(name.lower()) == int(number, 16)]
             self.assertEqual(pairs, [], path)
