@@ -8,10 +8,16 @@ import os
 import shutil
 import subprocess
 import tarfile
+from collections.abc import Iterator
 
 from nesthv_tools import command_line, endings, layout, places, programs, streams, versions, whole_files
 
 PAGES = ("README.md", "CHANGES.md", "CONTRIBUTING.md", "SECURITY.md", "docs/*.md", "docs/*.svg")
+COPYRIGHT = """nesthv: a deterministic RISC-V simulator for hypervisors
+
+No licence has been granted yet. You may read it. Ask the owner before you
+use, copy or change it.
+"""
 CONTROL = """Package: nesthv
 Version: {version}
 Section: otherosfs
@@ -81,14 +87,22 @@ def put(root: str, files: list[layout.File], links: list[layout.Link], seconds: 
         os.utime(os.path.join(root, path), (seconds, seconds), follow_symlinks=False)
 
 
-def moved(path: str) -> str:
-    """Where Debian has what is installed at a path: its zsh reads completion elsewhere."""
-    return path.replace(layout.ZSH, layout.ZSH_OF_DEBIAN)
+def debian_files(files: list[layout.File]) -> Iterator[layout.File]:
+    """The files as Debian has them: pages of the manual and the changes compressed, completion of zsh where its zsh
+    reads it, and what there is to say of a licence."""
+    for file in files:
+        if file.path.startswith(layout.MANUAL):
+            yield layout.File(f"{file.path}.gz", gzip.compress(file.data, 9, mtime=0), file.mode)
+        else:
+            yield file._replace(path=file.path.replace(layout.ZSH, layout.ZSH_OF_DEBIAN))
+    changes = layout.bytes_at(os.path.join(places.TOP, "CHANGES.md"))
+    yield layout.File(os.path.join(places.DOCUMENTS, "changelog.gz"), gzip.compress(changes, 9, mtime=0), 0o644)
+    yield layout.File(os.path.join(places.DOCUMENTS, "copyright"), COPYRIGHT.encode(), 0o644)
 
 
 def debian_package(version: str, files: list[layout.File], links: list[layout.Link], seconds: int) -> bytes:
     """A package of Debian, below /usr, made by dpkg-deb."""
-    files = sorted(file._replace(path=os.path.join("usr", moved(file.path))) for file in files)
+    files = sorted(file._replace(path=os.path.join("usr", file.path)) for file in debian_files(files))
     links = [link._replace(path=os.path.join("usr", link.path)) for link in links]
     size = sum(-(-len(file.data) // 1024) for file in files)
     sums = "".join(f"{hashlib.md5(file.data).hexdigest()}  {file.path}\n" for file in files)

@@ -265,6 +265,14 @@ class PackageTest(ToolTest):
         if can_change_root:
             self.check_run(root, f"/opt/{name}", f"/opt/{name}/{FIRST}")
 
+    def check_files_of_debian(self):
+        """The manual and the changes are compressed, zsh finds its completion, and there is a word on the licence."""
+        listed = subprocess.run(["dpkg-deb", "--contents", self.deb[0]], capture_output=True, text=True).stdout
+        for path in ("man/man1/nesthv.1.gz", "zsh/vendor-completions/_nesthv", "doc/nesthv/copyright",
+                     "doc/nesthv/changelog.gz"):
+            self.assertIn(f" ./usr/share/{path}\n", listed)
+        self.assertNotIn("site-functions", listed)
+
     @unittest.skipUnless(shutil.which("dpkg-deb"), "dpkg-deb is not installed")
     def test_deb(self):
         fields = subprocess.run(["dpkg-deb", "--field", self.deb[0]], capture_output=True, text=True).stdout
@@ -276,6 +284,7 @@ class PackageTest(ToolTest):
             subprocess.run(["dpkg-deb", "-x", self.deb[0], os.path.join(self.folder, "x")], check=True)
             self.check_unpacked(os.path.join(self.folder, "x", "usr"))
             return
+        self.check_files_of_debian()
         root = self.root()
         for folder in ("info", "updates", "triggers"):
             os.makedirs(f"{root}/var/lib/dpkg/{folder}")

@@ -1,10 +1,11 @@
 """Installs the proved program `nesthv`, the debugger `nesthv-gdb` and the log `nesthv-trace` where dist/ has
 them, and the tools: `nesthv-run`, which explains what the program says, `nesthv-build`, which builds a guest,
 `nesthv-look`, which looks at a guest at any step, `nesthv-debug`, which starts gdb, `nesthv-profile`, which
-shows a whole run, `nesthv-batch`, which runs many configurations, `nesthv-inputs`, which makes files of
-inputs, `nesthv-saved`, which shows files of saved guests, and `nesthv-qemu-run`, which runs a guest under
-QEMU; with man pages, the examples, and completion for bash, zsh and fish. It writes over no file that it has
-not written. With --uninstall it removes what it has installed.
+shows a whole run, `nesthv-batch`, which runs many configurations, `nesthv-explore`, which tries what hardware
+may do, `nesthv-fuzz`, which fuzzes a guest's inputs, `nesthv-inputs`, which makes files of inputs,
+`nesthv-saved`, which shows files of saved guests, and `nesthv-qemu-run`, which runs a guest under QEMU; with
+man pages, the examples, and completion for bash, zsh and fish. It writes over no file that it has not
+written. With --uninstall it removes what it has installed.
 """
 import contextlib
 import glob
