@@ -60,7 +60,7 @@ class ElfTest(ToolTest):
         self.put("b", LOOP + bytes(4))
         ran = self.tool("tools/run", "b", "--steps", "9")
         self.assertEqual(ran.stdout, b"guest b running steps 9 bytes 0\n\n")
-        self.check_said(ran, "`tools/look b --steps 9 last-trap`")
+        self.check_said(ran, "`tools/look b --steps 9 doctor`")
 
     def test_configurations_stay_configurations(self):
         for name, text in (("a.toml", b"\x7fELF"), ("a.conf", b"format = 3\n")):
