@@ -236,7 +236,7 @@ class ProgramTest(ToolTest):
         self.put("s", b"")
         ran = self.tool("tools/run", "check", self.configure(front=TURNS, **RESUMED))
         self.check_plain(ran, 2)
-        self.check_said(ran, "is not a saved guest: it has 0 bytes")
+        self.check_said(ran, "is not a saved guest: the file is empty")
 
     def test_changed_files(self):
         """The tool finds a fault exactly where the program does."""
