@@ -65,21 +65,21 @@ class EntryTest(ToolTest):
         self.assertIn("its first instruction is compressed", self.notices(b"\x01\0\x01\0")[0])  # c.nop
 
     def test_word_behind_the_start(self):
-        self.assertIn("at 0x80000004: build it", self.notices(struct.pack("<2I", 0x13, 0x00010001))[0])
+        self.assertIn("at 0x80000004", self.notices(struct.pack("<2I", 0x13, 0x00010001))[0])
 
     def test_target_of_a_jump(self):
-        self.assertIn("at 0x80000008: build it", self.notices(struct.pack("<3I", 0x0080006F, 0, 0x00010001))[0])
+        self.assertIn("at 0x80000008", self.notices(struct.pack("<3I", 0x0080006F, 0, 0x00010001))[0])
 
     def test_target_of_a_branch_and_of_a_call(self):
         branch = struct.pack("<4I", 0x00050463, 0x6F, 0x13, 0x00010001)  # beqz a0, .+8; j .
-        self.assertIn("at 0x8000000c: build it", self.notices(branch)[0])
+        self.assertIn("at 0x8000000c", self.notices(branch)[0])
         call = struct.pack("<3I", 0x00000297, 0x00A280E7, 0x00010001)  # auipc t0, 0; jalr ra, 10(t0)
-        self.assertIn("at 0x8000000a: build it", self.notices(call)[0])
+        self.assertIn("at 0x8000000a", self.notices(call)[0])
 
     def test_trap_handler(self):
         # la t0, .+16; csrw stvec, t0; j .
         code = struct.pack("<5I", 0x00000297, 0x01028293, 0x10529073, 0x6F, 0x00010001)
-        self.assertIn("at 0x80000010: build it", self.notices(code)[0])
+        self.assertIn("at 0x80000010", self.notices(code)[0])
 
     def test_data_behind_code(self):
         for last in (0x6F, 0x73, 0x10200073, 0x00008067):  # j .; ecall, which stops; sret; ret

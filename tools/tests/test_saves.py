@@ -2,7 +2,9 @@
 import os
 import random
 import re
+import shutil
 import subprocess
+import unittest
 
 from saved_files import HGATP, form
 from helper import LETTER, PROGRAM, TOP, ToolTest
@@ -203,6 +205,7 @@ class FaultTest(ToolTest):
         self.assertIn("`resume` (a key of `format = 2`)",
                       self.explained("configuration fault 8 guest 0", front=front, resume='"s"'))
 
+    @unittest.skipUnless(shutil.which("qemu-system-riscv64"), "qemu-system-riscv64 is not installed")
     def test_qemu(self):
         ran = self.tool("tools/qemu-run", self.configure(front=TURNS, **RESUMED))
         self.check_plain(ran, 2)
