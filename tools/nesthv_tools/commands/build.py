@@ -101,9 +101,8 @@ def words_of(options: Namespace) -> list[str]:
     return [*words, *options.flags]
 
 
-def build(options: Namespace, cross: str) -> int:
+def build(options: Namespace, base: str, cross: str) -> int:
     """Builds both files, or none, and gives the status."""
-    base = base_of(options)
     with endings.Folder("nesthv-build-") as folder:
         elf, image = (os.path.join(folder, f"made.{end}") for end in ("elf", "bin"))
         for words in ([f"{cross}gcc", *FLAGS, "-o", elf, *words_of(options)],
@@ -121,10 +120,11 @@ def main() -> int:
     try:
         refuse_flags(options.flags)
         refuse_sources(options.sources)
+        base = base_of(options)
         for program in (f"{cross}gcc", f"{cross}objcopy"):
             if not shutil.which(program):
                 raise Refused(f"there is no {program} ({PACKAGE})")
-        return build(options, cross)
+        return build(options, base, cross)
     except Refused as why:
         streams.say(str(why))
         return UNUSABLE
