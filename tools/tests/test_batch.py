@@ -176,7 +176,7 @@ class BatchTest(ToolTest):
             self.check_plain(self.batch(*words), 2)
         ran = self.tool("tools/batch", "none")
         self.check_plain(ran, 2)
-        self.check_said(ran, "none: No such file or directory")
+        self.check_said(ran, "none: there is no such file")
         self.check_plain(self.tool("tools/batch", "--program", "none", "kept"), 2)
 
     def test_output_that_fails(self):
