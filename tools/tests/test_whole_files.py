@@ -69,8 +69,9 @@ class WholeTest(ToolTest):
 
     def test_install(self):
         self.put("prefix/bin/nesthv", b"old")
-        self.put("prefix/lib/nesthv/FILES", b"bin/nesthv\n")
+        self.put("prefix/lib/nesthv/FILES", "bin/nesthv\n")
         ran = self.tool("tools/install", "prefix", preexec_fn=few_bytes)
         self.check_plain(ran, 2)
-        self.check_said(ran, "File too large")
+        self.check_said(ran, "prefix/lib/nesthv/FILES: File too large")
+        self.assertEqual(self.bytes_of("prefix/lib/nesthv/FILES"), b"bin/nesthv\n")
         self.assertEqual(self.bytes_of("prefix/bin/nesthv"), b"old")

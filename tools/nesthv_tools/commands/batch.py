@@ -15,7 +15,7 @@ import subprocess
 import time
 from xml.sax import saxutils
 from argparse import Namespace
-from collections.abc import Iterable, Iterator
+from collections.abc import Generator, Iterable
 
 from nesthv_tools import (
     children, command_line, endings, faults, image_configurations, places, programs, reports, streams, terminal,
@@ -219,7 +219,7 @@ def names_of(options: Namespace) -> list[str]:
             if any(fnmatch.fnmatchcase(name.removesuffix(".toml"), each) for each in wanted)]
 
 
-def outcomes_of(batch: Batch, names: list[str], jobs: int) -> Iterator[Outcome]:
+def outcomes_of(batch: Batch, names: list[str], jobs: int) -> Generator[Outcome, None, None]:
     """The outcome of each configuration, in order, while others still run."""
     with concurrent.futures.ThreadPoolExecutor(jobs) as pool:
         try:
@@ -233,9 +233,11 @@ def run_all(options: Namespace, program: programs.Program, names: list[str], mad
     batch, outcomes = Batch(options, program, made_of), []
     if options.tap:
         print(f"1..{len(names)}", flush=True)
-    for number, outcome in enumerate(outcomes_of(batch, names, options.jobs or os.cpu_count() or 1), 1):
-        outcomes.append(outcome)
-        show(options, number, outcome)
+    # Closed, so that an interrupt while an outcome is shown ends the others too.
+    with contextlib.closing(outcomes_of(batch, names, options.jobs or os.cpu_count() or 1)) as found:
+        for number, outcome in enumerate(found, 1):
+            outcomes.append(outcome)
+            show(options, number, outcome)
     if options.junit:
         whole_files.write(options.junit, junit_of(batch.folder, outcomes).encode())
     if options.json:
